@@ -1,0 +1,1 @@
+// Definitions only: what the words of the product mean. See specs/.
