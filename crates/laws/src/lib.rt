@@ -1,0 +1,1 @@
+// Laws only: what follows from the definitions. See specs/.
