@@ -9,7 +9,7 @@ use lib.Dec.{eqb}
 use lib.ListN.{length, drop, replicate}
 use Rattle.meaning.specs.Expression.{Re, marks, size}
 use Rattle.meaning.specs.Grammar.{Pattern, Viable, Longest}
-use Rattle.meaning.specs.Tree.{First, Other, Flag, NoTree, Begins}
+use Rattle.meaning.specs.Tree.{Tree, First, Other, Flag, NoTree, Begins}
 use Rattle.meaning.specs.Limits.{pattern-limit, text-limit, nesting-limit, position-limit, mark-limit, cells-for}
 use Rattle.meaning.specs.ReadPattern.{ReadPattern, read-pattern, no-parts}
 
@@ -42,7 +42,13 @@ cleared text cells = replicate (cells-for (length text)) 0 ++ drop (cells-for (l
 abbrev pub written : List ℕ → List ℕ → List ℕ
 written row room = row ++ drop (length row) room
 
--- pattern and text are within their limits, and there are cells enough
+-- lines 8, 9 and 0 for an accepted pattern: number, value, flag, and the tree room afterwards
+pub data Judged (e : Re) (text room : List ℕ) : ℕ → ℕ → ℕ → List ℕ → Type 0 where
+  no-tree : {place : ℕ} → NoTree e text → Longest (Begins e) text place → Judged e text room 8 place 0 room
+  small-room : {row : List ℕ} → First e text row → length room < length row → Judged e text room 9 (length row) 0 room
+  tree : {row : List ℕ} {flag : ℕ} → First e text row → length row ≤ length room → Flag e text flag → Judged e text room 0 (length row) flag (written row room)
+
+-- no line before 4 applies
 pub record Ready (pat text cells : List ℕ) : Type 0 where
   pub short-pattern : length pat ≤ pattern-limit
   pub short-text : length text ≤ text-limit
@@ -54,12 +60,8 @@ pub data Answered (pat text cells room : List ℕ) : ℕ → ℕ → ℕ → Lis
   long-text : length pat ≤ pattern-limit → text-limit < length text → Answered pat text cells room 2 0 0 cells room
   few-cells : length pat ≤ pattern-limit → length text ≤ text-limit → length cells < cells-for (length text) → Answered pat text cells room 3 0 0 cells room
   refused : {n v : ℕ} → Ready pat text cells → Refused pat n v → Answered pat text cells room n v 0 cells room
-  no-tree : {e : Re} {place : ℕ} → Ready pat text cells → Accepted pat e → NoTree e text → Longest (Begins e) text place
-      → Answered pat text cells room 8 place 0 (cleared text cells) room
-  small-room : {e : Re} {row : List ℕ} → Ready pat text cells → Accepted pat e → First e text row → length room < length row
-      → Answered pat text cells room 9 (length row) 0 (cleared text cells) room
-  tree : {e : Re} {row : List ℕ} {flag : ℕ} → Ready pat text cells → Accepted pat e → First e text row → length row ≤ length room → Flag e text flag
-      → Answered pat text cells room 0 (length row) flag (cleared text cells) (written row room)
+  judged : {e : Re} {n v f : ℕ} {room′ : List ℕ} → Ready pat text cells → Accepted pat e → Judged e text room n v f room′
+      → Answered pat text cells room n v f (cleared text cells) room′
 
 -- how many tokens of a row equal h
 unfoldable pub count : ℕ → List ℕ → ℕ
@@ -71,11 +73,15 @@ pub data Counted (row : List ℕ) (mark : ℕ) : ℕ → ℕ → Type 0 where
   no-mark : (mark < 1) ⊎ (mark-limit < mark) → Counted row mark 10 0
   counted : 1 ≤ mark → mark ≤ mark-limit → Counted row mark 0 (count mark row)
 
+-- none, one or more trees
+pub data Trees (e : Re) (text : List ℕ) : ℕ → Type 0 where
+  none : NoTree e text → Trees e text 8
+  one : {row : List ℕ} → Tree 0 e text row → (Other e text → ⊥) → Trees e text 0
+  more : Other e text → Trees e text 11
+
 -- the scheduler's number
 pub data Verdict (pat text : List ℕ) : ℕ → Type 0 where
   long-pattern : pattern-limit < length pat → Verdict pat text 1
   long-text : length pat ≤ pattern-limit → text-limit < length text → Verdict pat text 2
   refused : {n v : ℕ} → length pat ≤ pattern-limit → length text ≤ text-limit → Refused pat n v → Verdict pat text n
-  no-tree : {e : Re} → length text ≤ text-limit → Accepted pat e → NoTree e text → Verdict pat text 8
-  one-tree : {e : Re} {row : List ℕ} → length text ≤ text-limit → Accepted pat e → First e text row → (Other e text → ⊥) → Verdict pat text 0
-  more-trees : {e : Re} → length text ≤ text-limit → Accepted pat e → Other e text → Verdict pat text 11
+  judged : {e : Re} {n : ℕ} → length text ≤ text-limit → Accepted pat e → Trees e text n → Verdict pat text n
