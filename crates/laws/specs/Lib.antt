@@ -1,2 +1,4 @@
 -- What follows from the definitions.
+pub mod Examples
+pub mod Promises
 pub mod Room

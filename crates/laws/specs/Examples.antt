@@ -1,0 +1,108 @@
+-- The definitions tried on worked examples: a wrong definition shows here.
+use mathlib.Core.Path.{_≡_, refl}
+use mathlib.Core.List.{List, [], _∷_}
+use Prim.Native.Nat.{ℕ}
+use Rattle.meaning.specs.Expression.{Re, pos, cat, alt, branch, opt, marks, size}
+use Rattle.meaning.specs.Grammar.{any, only, range, either}
+use Rattle.meaning.specs.Tree.{erase}
+use Rattle.meaning.specs.Limits.{room-for}
+use Rattle.meaning.specs.ReadPattern.{nodes, kinds, args, binary, word}
+use Rattle.meaning.specs.Promise.{count, cleared, written}
+use Rattle.meaning.specs.Desk.{pattern-in, text-in, digits, answer-line, token, tokens, tree-line, desk-lines}
+
+-- (a|ab)b? and its row for ab: o1 a c1 o3 b c3
+shown : Re
+shown = cat (alt (branch (pos (only 97))) (branch (cat (pos (only 97)) (pos (only 98))))) (opt (pos (only 98)))
+
+row : List ℕ
+row = 1 ∷ 353 ∷ 129 ∷ 3 ∷ 354 ∷ 131 ∷ []
+
+shown-marks : marks shown ≡ 3
+unfolding shown marks
+shown-marks = refl
+
+shown-size : size shown ≡ 4
+unfolding shown size
+shown-size = refl
+
+-- the parts a, branch, a, b, ab, branch, the list, b, b?, the whole
+shown-kinds : kinds shown ≡ 1 ∷ 4 ∷ 1 ∷ 1 ∷ 2 ∷ 4 ∷ 3 ∷ 1 ∷ 7 ∷ 2 ∷ []
+unfolding shown kinds
+shown-kinds = refl
+
+shown-args : args 0 0 0 shown ≡ 0 ∷ 1 ∷ 1 ∷ 2 ∷ 2 ∷ 2 ∷ 1 ∷ 3 ∷ 3 ∷ 6 ∷ []
+unfolding shown args nodes marks size
+shown-args = refl
+
+-- a is bit 33 of the second word, and of no other; a dot has every bit
+letter-word : word (only 97) 1 ≡ 0x2_0000_0000
+unfolding binary
+letter-word = refl
+
+other-word : word (only 97) 0 ≡ 0
+unfolding binary
+other-word = refl
+
+dot-word : word any 3 ≡ 0xffff_ffff_ffff_ffff
+unfolding binary
+dot-word = refl
+
+row-text : erase row ≡ 97 ∷ 98 ∷ []
+unfolding row erase
+row-text = refl
+
+row-turns : count 3 row ≡ 1
+unfolding row count
+row-turns = refl
+
+-- the third and fourth readings to check reach the room
+room-none : room-for 1 0 ≡ 2
+room-none = refl
+
+room-two : room-for 1 2 ≡ 6
+room-two = refl
+
+-- two bytes of text, five cells; a room of eight tokens
+cells-left : cleared (97 ∷ 98 ∷ []) (7 ∷ 7 ∷ 7 ∷ 7 ∷ 7 ∷ []) ≡ 0 ∷ 0 ∷ 0 ∷ 7 ∷ 7 ∷ []
+cells-left = refl
+
+room-left : written row (9 ∷ 9 ∷ 9 ∷ 9 ∷ 9 ∷ 9 ∷ 9 ∷ 9 ∷ []) ≡ 1 ∷ 353 ∷ 129 ∷ 3 ∷ 354 ∷ 131 ∷ 9 ∷ 9 ∷ []
+unfolding row
+room-left = refl
+
+-- the desk: (a|ab)b?, byte 10, ab
+input : List ℕ
+input = 40 ∷ 97 ∷ 124 ∷ 97 ∷ 98 ∷ 41 ∷ 98 ∷ 63 ∷ 10 ∷ 97 ∷ 98 ∷ []
+
+input-pattern : pattern-in input ≡ 40 ∷ 97 ∷ 124 ∷ 97 ∷ 98 ∷ 41 ∷ 98 ∷ 63 ∷ []
+unfolding input pattern-in
+input-pattern = refl
+
+input-text : text-in input ≡ 97 ∷ 98 ∷ []
+unfolding input text-in
+input-text = refl
+
+-- no byte 10: all is pattern
+no-line : text-in (97 ∷ []) ≡ []
+unfolding text-in
+no-line = refl
+
+-- a second byte 10 is text
+two-lines : text-in (97 ∷ 10 ∷ 10 ∷ 98 ∷ []) ≡ 10 ∷ 98 ∷ []
+unfolding text-in
+two-lines = refl
+
+-- ANSWER 0 6 1, TREE o1 b97 c1 o3 b98 c3
+output : desk-lines 0 6 1 row ≡ 65 ∷ 78 ∷ 83 ∷ 87 ∷ 69 ∷ 82 ∷ 32 ∷ 48 ∷ 32 ∷ 54 ∷ 32 ∷ 49 ∷ 10 ∷
+    84 ∷ 82 ∷ 69 ∷ 69 ∷ 32 ∷ 111 ∷ 49 ∷ 32 ∷ 98 ∷ 57 ∷ 55 ∷ 32 ∷ 99 ∷ 49 ∷ 32 ∷ 111 ∷ 51 ∷ 32 ∷ 98 ∷ 57 ∷ 56 ∷ 32 ∷ 99 ∷ 51 ∷ 10 ∷ []
+unfolding row desk-lines answer-line tree-line tokens token digits
+output = refl
+
+-- an empty row gives TREE alone, a refusal no second line
+no-tokens : desk-lines 0 0 0 [] ≡ 65 ∷ 78 ∷ 83 ∷ 87 ∷ 69 ∷ 82 ∷ 32 ∷ 48 ∷ 32 ∷ 48 ∷ 32 ∷ 48 ∷ 10 ∷ 84 ∷ 82 ∷ 69 ∷ 69 ∷ 10 ∷ []
+unfolding desk-lines answer-line tree-line tokens digits
+no-tokens = refl
+
+refusal : desk-lines 9 8194 0 [] ≡ 65 ∷ 78 ∷ 83 ∷ 87 ∷ 69 ∷ 82 ∷ 32 ∷ 57 ∷ 32 ∷ 56 ∷ 49 ∷ 57 ∷ 52 ∷ 32 ∷ 48 ∷ 10 ∷ []
+unfolding desk-lines answer-line digits
+refusal = refl
