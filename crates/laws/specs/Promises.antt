@@ -10,7 +10,7 @@ use Rattle.meaning.specs.Grammar.{Pattern, Longest}
 use Rattle.meaning.specs.Tree.{Tree, Before, First, Other, Flag, another, alone}
 use Rattle.meaning.specs.ReadPattern.{ReadPattern, read-pattern}
 use Rattle.meaning.specs.Desk.{Desk, desk}
-use Rattle.meaning.specs.Promise.{Refused, not-a-pattern, nested, positions, over-marks, Accepted, Read, Judged, small-room, Answered, few-cells, Counted, no-mark, counted, Trees, none, one, more, Verdict, long-pattern, long-text, refused, accepted, no-tree, tree, judged, written}
+use Rattle.meaning.specs.Promise.{Refused, not-a-pattern, nested, positions, over-marks, Accepted, Read, Judged, small-room, Answered, few-cells, Counted, no-mark, counted, Trees, none, one, more, Verdict, written}
 
 pub longest-one : {B : List ℕ → Type 0} {s : List ℕ} {p q : ℕ} → Longest B s p → Longest B s q → p ≡ q
 longest-one {p = p} {q} l l′ = omega (arith, l .last q (l′ .within) (l′ .begins), l′ .last p (l .within) (l .begins))
