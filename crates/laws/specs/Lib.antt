@@ -2,4 +2,5 @@
 pub mod Examples
 pub mod Holds
 pub mod Promises
+pub mod Readings
 pub mod Room

@@ -9,146 +9,144 @@ use Rattle.meaning.specs.Expression.{Re, marks, size}
 use Rattle.meaning.specs.Grammar.{Pattern, Longest}
 use Rattle.meaning.specs.Tree.{Tree, Before, First, Other, Flag, another, alone}
 use Rattle.meaning.specs.ReadPattern.{ReadPattern, read-pattern}
+use Rattle.grammar.specs.Place.{longest-unique}
+use Rattle.grammar.specs.Reads.{one-reading}
+use Rattle.positions.specs.Order.{first-one}
 use Rattle.meaning.specs.Desk.{Desk, desk}
 use Rattle.meaning.specs.Promise.{Refused, not-a-pattern, nested, positions, over-marks, Accepted, Read, Judged, small-room, Answered, few-cells, Counted, no-mark, counted, Trees, none, one, more, Verdict, written}
 
-pub longest-one : {B : List ℕ → Type 0} {s : List ℕ} {p q : ℕ} → Longest B s p → Longest B s q → p ≡ q
-longest-one {p = p} {q} l l′ = omega (arith, l .last q (l′ .within) (l′ .begins), l′ .last p (l .within) (l .begins))
+record Sizes (e e′ : Re) (d d′ : ℕ) : Type 0 where
+  pub deep : d ≡ d′
+  pub places : size e ≡ size e′
+  pub marked : marks e ≡ marks e′
 
-module _ (reading : (s : List ℕ) (e e′ : Re) (d d′ : ℕ) → Pattern s e d → Pattern s e′ d′ → (e ≡ e′) × (d ≡ d′))
-    (first-one : (e : Re) (s r r′ : List ℕ) → First e s r → First e s r′ → r ≡ r′) where
-  record Sizes (e e′ : Re) (d d′ : ℕ) : Type 0 where
-    pub deep : d ≡ d′
-    pub places : size e ≡ size e′
-    pub marked : marks e ≡ marks e′
+sizes : {s : List ℕ} {e e′ : Re} {d d′ : ℕ} → Pattern s e d → Pattern s e′ d′ → Sizes e e′ d d′
+sizes p p′ = let h = one-reading p p′ in record { deep = h .1; places = ap size (h .0); marked = ap marks (h .0) }
 
-  sizes : {s : List ℕ} {e e′ : Re} {d d′ : ℕ} → Pattern s e d → Pattern s e′ d′ → Sizes e e′ d d′
-  sizes p p′ = let h = reading _ _ _ _ _ p p′ in record { deep = h .1; places = ap size (h .0); marked = ap marks (h .0) }
+refused-one : {pat : List ℕ} {n v n′ v′ : ℕ} → Refused pat n v → Refused pat n′ v′ → (n ≡ n′) × (v ≡ v′)
+refused-one (not-a-pattern x l) (not-a-pattern x′ l′) = (refl, longest-unique l l′)
+refused-one (not-a-pattern x l) (nested p h) = absurd (x _ _ p)
+refused-one (not-a-pattern x l) (positions p h k) = absurd (x _ _ p)
+refused-one (not-a-pattern x l) (over-marks p h k j) = absurd (x _ _ p)
+refused-one (nested p h) (not-a-pattern x l) = absurd (x _ _ p)
+refused-one (nested p h) (nested p′ h′) = (refl, refl)
+refused-one (nested p h) (positions p′ h′ k′) = let z = sizes p p′ in absurd (omega arith)
+refused-one (nested p h) (over-marks p′ h′ k′ j′) = let z = sizes p p′ in absurd (omega arith)
+refused-one (positions p h k) (not-a-pattern x l) = absurd (x _ _ p)
+refused-one (positions p h k) (nested p′ h′) = let z = sizes p p′ in absurd (omega arith)
+refused-one (positions p h k) (positions p′ h′ k′) = (refl, refl)
+refused-one (positions p h k) (over-marks p′ h′ k′ j′) = let z = sizes p p′ in absurd (omega arith)
+refused-one (over-marks p h k j) (not-a-pattern x l) = absurd (x _ _ p)
+refused-one (over-marks p h k j) (nested p′ h′) = let z = sizes p p′ in absurd (omega arith)
+refused-one (over-marks p h k j) (positions p′ h′ k′) = let z = sizes p p′ in absurd (omega arith)
+refused-one (over-marks p h k j) (over-marks p′ h′ k′ j′) = (refl, refl)
 
-  refused-one : {pat : List ℕ} {n v n′ v′ : ℕ} → Refused pat n v → Refused pat n′ v′ → (n ≡ n′) × (v ≡ v′)
-  refused-one (not-a-pattern x l) (not-a-pattern x′ l′) = (refl, longest-one l l′)
-  refused-one (not-a-pattern x l) (nested p h) = absurd (x _ _ p)
-  refused-one (not-a-pattern x l) (positions p h k) = absurd (x _ _ p)
-  refused-one (not-a-pattern x l) (over-marks p h k j) = absurd (x _ _ p)
-  refused-one (nested p h) (not-a-pattern x l) = absurd (x _ _ p)
-  refused-one (nested p h) (nested p′ h′) = (refl, refl)
-  refused-one (nested p h) (positions p′ h′ k′) = let z = sizes p p′ in absurd (omega arith)
-  refused-one (nested p h) (over-marks p′ h′ k′ j′) = let z = sizes p p′ in absurd (omega arith)
-  refused-one (positions p h k) (not-a-pattern x l) = absurd (x _ _ p)
-  refused-one (positions p h k) (nested p′ h′) = let z = sizes p p′ in absurd (omega arith)
-  refused-one (positions p h k) (positions p′ h′ k′) = (refl, refl)
-  refused-one (positions p h k) (over-marks p′ h′ k′ j′) = let z = sizes p p′ in absurd (omega arith)
-  refused-one (over-marks p h k j) (not-a-pattern x l) = absurd (x _ _ p)
-  refused-one (over-marks p h k j) (nested p′ h′) = let z = sizes p p′ in absurd (omega arith)
-  refused-one (over-marks p h k j) (positions p′ h′ k′) = let z = sizes p p′ in absurd (omega arith)
-  refused-one (over-marks p h k j) (over-marks p′ h′ k′ j′) = (refl, refl)
+refused-accepted : {pat : List ℕ} {n v : ℕ} {e : Re} → Refused pat n v → Accepted pat e → ⊥
+refused-accepted (not-a-pattern x l) a = x _ _ (a .denotes)
+refused-accepted (nested p h) a = let z = sizes p (a .denotes) in omega arith
+refused-accepted (positions p h k) a = let z = sizes p (a .denotes) in omega arith
+refused-accepted (over-marks p h k j) a = let z = sizes p (a .denotes) in omega arith
 
-  refused-accepted : {pat : List ℕ} {n v : ℕ} {e : Re} → Refused pat n v → Accepted pat e → ⊥
-  refused-accepted (not-a-pattern x l) a = x _ _ (a .denotes)
-  refused-accepted (nested p h) a = let z = sizes p (a .denotes) in omega arith
-  refused-accepted (positions p h k) a = let z = sizes p (a .denotes) in omega arith
-  refused-accepted (over-marks p h k j) a = let z = sizes p (a .denotes) in omega arith
+accepted-one : {pat : List ℕ} {e e′ : Re} → Accepted pat e → Accepted pat e′ → e ≡ e′
+accepted-one a a′ = one-reading (a .denotes) (a′ .denotes) .0
 
-  accepted-one : {pat : List ℕ} {e e′ : Re} → Accepted pat e → Accepted pat e′ → e ≡ e′
-  accepted-one a a′ = reading _ _ _ _ _ (a .denotes) (a′ .denotes) .0
+pub read-one : {pat : List ℕ} {n v n′ v′ : ℕ} {P P′ : ReadPattern} → Read pat n v P → Read pat n′ v′ P′ → (n ≡ n′) × (v ≡ v′) × (P ≡ P′)
+read-one (Read.long-pattern h) (Read.long-pattern h′) = (refl, refl, refl)
+read-one (Read.long-pattern h) (Read.refused h′ r) = absurd (omega arith)
+read-one (Read.long-pattern h) (Read.accepted a) = absurd (omega arith)
+read-one (Read.refused h r) (Read.long-pattern h′) = absurd (omega arith)
+read-one (Read.refused h r) (Read.refused h′ r′) = let z = refused-one r r′ in (z .0, z .1, refl)
+read-one (Read.refused h r) (Read.accepted a) = absurd (refused-accepted r a)
+read-one (Read.accepted a) (Read.long-pattern h) = absurd (omega arith)
+read-one (Read.accepted a) (Read.refused h r) = absurd (refused-accepted r a)
+read-one (Read.accepted a) (Read.accepted a′) = (refl, refl, ap read-pattern (accepted-one a a′))
 
-  pub read-one : {pat : List ℕ} {n v n′ v′ : ℕ} {P P′ : ReadPattern} → Read pat n v P → Read pat n′ v′ P′ → (n ≡ n′) × (v ≡ v′) × (P ≡ P′)
-  read-one (Read.long-pattern h) (Read.long-pattern h′) = (refl, refl, refl)
-  read-one (Read.long-pattern h) (Read.refused h′ r) = absurd (omega arith)
-  read-one (Read.long-pattern h) (Read.accepted a) = absurd (omega arith)
-  read-one (Read.refused h r) (Read.long-pattern h′) = absurd (omega arith)
-  read-one (Read.refused h r) (Read.refused h′ r′) = let z = refused-one r r′ in (z .0, z .1, refl)
-  read-one (Read.refused h r) (Read.accepted a) = absurd (refused-accepted r a)
-  read-one (Read.accepted a) (Read.long-pattern h) = absurd (omega arith)
-  read-one (Read.accepted a) (Read.refused h r) = absurd (refused-accepted r a)
-  read-one (Read.accepted a) (Read.accepted a′) = (refl, refl, ap read-pattern (accepted-one a a′))
+flag-one : {e : Re} {s : List ℕ} {f f′ : ℕ} → Flag e s f → Flag e s f′ → f ≡ f′
+flag-one (another o) (another o′) = refl
+flag-one (another o) (alone x) = absurd (x o)
+flag-one (alone x) (another o) = absurd (x o)
+flag-one (alone x) (alone x′) = refl
 
-  flag-one : {e : Re} {s : List ℕ} {f f′ : ℕ} → Flag e s f → Flag e s f′ → f ≡ f′
-  flag-one (another o) (another o′) = refl
-  flag-one (another o) (alone x) = absurd (x o)
-  flag-one (alone x) (another o) = absurd (x o)
-  flag-one (alone x) (alone x′) = refl
+-- number, value, flag and room of two outcomes
+abbrev Same : ℕ → ℕ → ℕ → List ℕ → ℕ → ℕ → ℕ → List ℕ → Type 0
+Same n v f room n′ v′ f′ room′ = (n ≡ n′) × (v ≡ v′) × (f ≡ f′) × (room ≡ room′)
 
-  -- number, value, flag and room of two outcomes
-  abbrev Same : ℕ → ℕ → ℕ → List ℕ → ℕ → ℕ → ℕ → List ℕ → Type 0
-  Same n v f room n′ v′ f′ room′ = (n ≡ n′) × (v ≡ v′) × (f ≡ f′) × (room ≡ room′)
+judged-one : {e : Re} {s room room₁ room₂ : List ℕ} {n v f n′ v′ f′ : ℕ} → Judged e s room n v f room₁ → Judged e s room n′ v′ f′ room₂ → Same n v f room₁ n′ v′ f′ room₂
+judged-one (Judged.no-tree x l) (Judged.no-tree x′ l′) = (refl, longest-unique l l′, refl, refl)
+judged-one (Judged.no-tree x l) (small-room a h) = absurd (x _ (a .tree))
+judged-one (Judged.no-tree x l) (Judged.tree a h b) = absurd (x _ (a .tree))
+judged-one (small-room a h) (Judged.no-tree x l) = absurd (x _ (a .tree))
+judged-one (small-room a h) (small-room a′ h′) = (refl, ap length (first-one a a′), refl, refl)
+judged-one (small-room a h) (Judged.tree a′ h′ b) = absurd (omega (arith, ap length (first-one a a′)))
+judged-one (Judged.tree a h b) (Judged.no-tree x l) = absurd (x _ (a .tree))
+judged-one (Judged.tree a h b) (small-room a′ h′) = absurd (omega (arith, ap length (first-one a a′)))
+judged-one {room = room} (Judged.tree a h b) (Judged.tree a′ h′ b′) =
+    let z = first-one a a′ in (refl, ap length z, flag-one b b′, ap (λ (r : List ℕ). written r room) z)
 
-  judged-one : {e : Re} {s room room₁ room₂ : List ℕ} {n v f n′ v′ f′ : ℕ} → Judged e s room n v f room₁ → Judged e s room n′ v′ f′ room₂ → Same n v f room₁ n′ v′ f′ room₂
-  judged-one (Judged.no-tree x l) (Judged.no-tree x′ l′) = (refl, longest-one l l′, refl, refl)
-  judged-one (Judged.no-tree x l) (small-room a h) = absurd (x _ (a .tree))
-  judged-one (Judged.no-tree x l) (Judged.tree a h b) = absurd (x _ (a .tree))
-  judged-one (small-room a h) (Judged.no-tree x l) = absurd (x _ (a .tree))
-  judged-one (small-room a h) (small-room a′ h′) = (refl, ap length (first-one _ _ _ _ a a′), refl, refl)
-  judged-one (small-room a h) (Judged.tree a′ h′ b) = absurd (omega (arith, ap length (first-one _ _ _ _ a a′)))
-  judged-one (Judged.tree a h b) (Judged.no-tree x l) = absurd (x _ (a .tree))
-  judged-one (Judged.tree a h b) (small-room a′ h′) = absurd (omega (arith, ap length (first-one _ _ _ _ a a′)))
-  judged-one {room = room} (Judged.tree a h b) (Judged.tree a′ h′ b′) =
-      let z = first-one _ _ _ _ a a′ in (refl, ap length z, flag-one b b′, ap (λ (r : List ℕ). written r room) z)
+pub answered-one : {pat text cells room cells₁ cells₂ room₁ room₂ : List ℕ} {n v f n′ v′ f′ : ℕ}
+    → Answered pat text cells room n v f cells₁ room₁ → Answered pat text cells room n′ v′ f′ cells₂ room₂ → Same n v f room₁ n′ v′ f′ room₂ × (cells₁ ≡ cells₂)
+answered-one (Answered.long-pattern h) (Answered.long-pattern h′) = ((refl, refl, refl, refl), refl)
+answered-one (Answered.long-pattern h) (Answered.long-text h′ k) = absurd (omega arith)
+answered-one (Answered.long-pattern h) (few-cells h′ k j) = absurd (omega arith)
+answered-one (Answered.long-pattern h) (Answered.refused g r) = absurd (omega arith)
+answered-one (Answered.long-pattern h) (Answered.judged g a j) = absurd (omega arith)
+answered-one (Answered.long-text h k) (Answered.long-pattern h′) = absurd (omega arith)
+answered-one (Answered.long-text h k) (Answered.long-text h′ k′) = ((refl, refl, refl, refl), refl)
+answered-one (Answered.long-text h k) (few-cells h′ k′ j) = absurd (omega arith)
+answered-one (Answered.long-text h k) (Answered.refused g r) = absurd (omega arith)
+answered-one (Answered.long-text h k) (Answered.judged g a j) = absurd (omega arith)
+answered-one (few-cells h k j) (Answered.long-pattern h′) = absurd (omega arith)
+answered-one (few-cells h k j) (Answered.long-text h′ k′) = absurd (omega arith)
+answered-one (few-cells h k j) (few-cells h′ k′ j′) = ((refl, refl, refl, refl), refl)
+answered-one (few-cells h k j) (Answered.refused g r) = absurd (omega arith)
+answered-one (few-cells h k j) (Answered.judged g a j′) = absurd (omega arith)
+answered-one (Answered.refused g r) (Answered.long-pattern h) = absurd (omega arith)
+answered-one (Answered.refused g r) (Answered.long-text h k) = absurd (omega arith)
+answered-one (Answered.refused g r) (few-cells h k j) = absurd (omega arith)
+answered-one (Answered.refused g r) (Answered.refused g′ r′) = let z = refused-one r r′ in ((z .0, z .1, refl, refl), refl)
+answered-one (Answered.refused g r) (Answered.judged g′ a j) = absurd (refused-accepted r a)
+answered-one (Answered.judged g a j) (Answered.long-pattern h) = absurd (omega arith)
+answered-one (Answered.judged g a j) (Answered.long-text h k) = absurd (omega arith)
+answered-one (Answered.judged g a j) (few-cells h k j′) = absurd (omega arith)
+answered-one (Answered.judged g a j) (Answered.refused g′ r) = absurd (refused-accepted r a)
+answered-one (Answered.judged g a j) (Answered.judged g′ a′ j′) = (judged-one (rw (accepted-one a a′) at j) j′, refl)
 
-  pub answered-one : {pat text cells room cells₁ cells₂ room₁ room₂ : List ℕ} {n v f n′ v′ f′ : ℕ}
-      → Answered pat text cells room n v f cells₁ room₁ → Answered pat text cells room n′ v′ f′ cells₂ room₂ → Same n v f room₁ n′ v′ f′ room₂ × (cells₁ ≡ cells₂)
-  answered-one (Answered.long-pattern h) (Answered.long-pattern h′) = ((refl, refl, refl, refl), refl)
-  answered-one (Answered.long-pattern h) (Answered.long-text h′ k) = absurd (omega arith)
-  answered-one (Answered.long-pattern h) (few-cells h′ k j) = absurd (omega arith)
-  answered-one (Answered.long-pattern h) (Answered.refused g r) = absurd (omega arith)
-  answered-one (Answered.long-pattern h) (Answered.judged g a j) = absurd (omega arith)
-  answered-one (Answered.long-text h k) (Answered.long-pattern h′) = absurd (omega arith)
-  answered-one (Answered.long-text h k) (Answered.long-text h′ k′) = ((refl, refl, refl, refl), refl)
-  answered-one (Answered.long-text h k) (few-cells h′ k′ j) = absurd (omega arith)
-  answered-one (Answered.long-text h k) (Answered.refused g r) = absurd (omega arith)
-  answered-one (Answered.long-text h k) (Answered.judged g a j) = absurd (omega arith)
-  answered-one (few-cells h k j) (Answered.long-pattern h′) = absurd (omega arith)
-  answered-one (few-cells h k j) (Answered.long-text h′ k′) = absurd (omega arith)
-  answered-one (few-cells h k j) (few-cells h′ k′ j′) = ((refl, refl, refl, refl), refl)
-  answered-one (few-cells h k j) (Answered.refused g r) = absurd (omega arith)
-  answered-one (few-cells h k j) (Answered.judged g a j′) = absurd (omega arith)
-  answered-one (Answered.refused g r) (Answered.long-pattern h) = absurd (omega arith)
-  answered-one (Answered.refused g r) (Answered.long-text h k) = absurd (omega arith)
-  answered-one (Answered.refused g r) (few-cells h k j) = absurd (omega arith)
-  answered-one (Answered.refused g r) (Answered.refused g′ r′) = let z = refused-one r r′ in ((z .0, z .1, refl, refl), refl)
-  answered-one (Answered.refused g r) (Answered.judged g′ a j) = absurd (refused-accepted r a)
-  answered-one (Answered.judged g a j) (Answered.long-pattern h) = absurd (omega arith)
-  answered-one (Answered.judged g a j) (Answered.long-text h k) = absurd (omega arith)
-  answered-one (Answered.judged g a j) (few-cells h k j′) = absurd (omega arith)
-  answered-one (Answered.judged g a j) (Answered.refused g′ r) = absurd (refused-accepted r a)
-  answered-one (Answered.judged g a j) (Answered.judged g′ a′ j′) = (judged-one (rw (accepted-one a a′) at j) j′, refl)
+pub counted-one : {row : List ℕ} {mark n c n′ c′ : ℕ} → Counted row mark n c → Counted row mark n′ c′ → (n ≡ n′) × (c ≡ c′)
+counted-one (no-mark h) (no-mark h′) = (refl, refl)
+counted-one (no-mark (inl h)) (counted k l) = absurd (omega arith)
+counted-one (no-mark (inr h)) (counted k l) = absurd (omega arith)
+counted-one (counted k l) (no-mark (inl h)) = absurd (omega arith)
+counted-one (counted k l) (no-mark (inr h)) = absurd (omega arith)
+counted-one (counted k l) (counted k′ l′) = (refl, refl)
 
-  pub counted-one : {row : List ℕ} {mark n c n′ c′ : ℕ} → Counted row mark n c → Counted row mark n′ c′ → (n ≡ n′) × (c ≡ c′)
-  counted-one (no-mark h) (no-mark h′) = (refl, refl)
-  counted-one (no-mark (inl h)) (counted k l) = absurd (omega arith)
-  counted-one (no-mark (inr h)) (counted k l) = absurd (omega arith)
-  counted-one (counted k l) (no-mark (inl h)) = absurd (omega arith)
-  counted-one (counted k l) (no-mark (inr h)) = absurd (omega arith)
-  counted-one (counted k l) (counted k′ l′) = (refl, refl)
+trees-one : {e : Re} {s : List ℕ} {n n′ : ℕ} → Trees e s n → Trees e s n′ → n ≡ n′
+trees-one (none x) (none x′) = refl
+trees-one (none x) (one t y) = absurd (x _ t)
+trees-one (none x) (more o) = absurd (x _ (o .tree-one))
+trees-one (one t y) (none x) = absurd (x _ t)
+trees-one (one t y) (one t′ y′) = refl
+trees-one (one t y) (more o) = absurd (y o)
+trees-one (more o) (none x) = absurd (x _ (o .tree-one))
+trees-one (more o) (one t y) = absurd (y o)
+trees-one (more o) (more o′) = refl
 
-  trees-one : {e : Re} {s : List ℕ} {n n′ : ℕ} → Trees e s n → Trees e s n′ → n ≡ n′
-  trees-one (none x) (none x′) = refl
-  trees-one (none x) (one t y) = absurd (x _ t)
-  trees-one (none x) (more o) = absurd (x _ (o .tree-one))
-  trees-one (one t y) (none x) = absurd (x _ t)
-  trees-one (one t y) (one t′ y′) = refl
-  trees-one (one t y) (more o) = absurd (y o)
-  trees-one (more o) (none x) = absurd (x _ (o .tree-one))
-  trees-one (more o) (one t y) = absurd (y o)
-  trees-one (more o) (more o′) = refl
+pub verdict-one : {pat text : List ℕ} {n n′ : ℕ} → Verdict pat text n → Verdict pat text n′ → n ≡ n′
+verdict-one (Verdict.long-pattern h) (Verdict.long-pattern h′) = refl
+verdict-one (Verdict.long-pattern h) (Verdict.long-text h′ k) = absurd (omega arith)
+verdict-one (Verdict.long-pattern h) (Verdict.refused h′ k r) = absurd (omega arith)
+verdict-one (Verdict.long-pattern h) (Verdict.judged k a t) = absurd (omega arith)
+verdict-one (Verdict.long-text h k) (Verdict.long-pattern h′) = absurd (omega arith)
+verdict-one (Verdict.long-text h k) (Verdict.long-text h′ k′) = refl
+verdict-one (Verdict.long-text h k) (Verdict.refused h′ k′ r) = absurd (omega arith)
+verdict-one (Verdict.long-text h k) (Verdict.judged k′ a t) = absurd (omega arith)
+verdict-one (Verdict.refused h k r) (Verdict.long-pattern h′) = absurd (omega arith)
+verdict-one (Verdict.refused h k r) (Verdict.long-text h′ k′) = absurd (omega arith)
+verdict-one (Verdict.refused h k r) (Verdict.refused h′ k′ r′) = refused-one r r′ .0
+verdict-one (Verdict.refused h k r) (Verdict.judged k′ a t) = absurd (refused-accepted r a)
+verdict-one (Verdict.judged k a t) (Verdict.long-pattern h′) = absurd (omega arith)
+verdict-one (Verdict.judged k a t) (Verdict.long-text h′ k′) = absurd (omega arith)
+verdict-one (Verdict.judged k a t) (Verdict.refused h′ k′ r) = absurd (refused-accepted r a)
+verdict-one (Verdict.judged k a t) (Verdict.judged k′ a′ t′) = trees-one (rw (accepted-one a a′) at t) t′
 
-  pub verdict-one : {pat text : List ℕ} {n n′ : ℕ} → Verdict pat text n → Verdict pat text n′ → n ≡ n′
-  verdict-one (Verdict.long-pattern h) (Verdict.long-pattern h′) = refl
-  verdict-one (Verdict.long-pattern h) (Verdict.long-text h′ k) = absurd (omega arith)
-  verdict-one (Verdict.long-pattern h) (Verdict.refused h′ k r) = absurd (omega arith)
-  verdict-one (Verdict.long-pattern h) (Verdict.judged k a t) = absurd (omega arith)
-  verdict-one (Verdict.long-text h k) (Verdict.long-pattern h′) = absurd (omega arith)
-  verdict-one (Verdict.long-text h k) (Verdict.long-text h′ k′) = refl
-  verdict-one (Verdict.long-text h k) (Verdict.refused h′ k′ r) = absurd (omega arith)
-  verdict-one (Verdict.long-text h k) (Verdict.judged k′ a t) = absurd (omega arith)
-  verdict-one (Verdict.refused h k r) (Verdict.long-pattern h′) = absurd (omega arith)
-  verdict-one (Verdict.refused h k r) (Verdict.long-text h′ k′) = absurd (omega arith)
-  verdict-one (Verdict.refused h k r) (Verdict.refused h′ k′ r′) = refused-one r r′ .0
-  verdict-one (Verdict.refused h k r) (Verdict.judged k′ a t) = absurd (refused-accepted r a)
-  verdict-one (Verdict.judged k a t) (Verdict.long-pattern h′) = absurd (omega arith)
-  verdict-one (Verdict.judged k a t) (Verdict.long-text h′ k′) = absurd (omega arith)
-  verdict-one (Verdict.judged k a t) (Verdict.refused h′ k′ r) = absurd (refused-accepted r a)
-  verdict-one (Verdict.judged k a t) (Verdict.judged k′ a′ t′) = trees-one (rw (accepted-one a a′) at t) t′
-
-  pub desk-one : {input out out′ : List ℕ} → Desk input out → Desk input out′ → out ≡ out′
-  desk-one (desk a) (desk a′) = let z = answered-one a a′ in rw (z .0 .0, z .0 .1, z .0 .2, z .0 .3)
+pub desk-one : {input out out′ : List ℕ} → Desk input out → Desk input out′ → out ≡ out′
+desk-one (desk a) (desk a′) = let z = answered-one a a′ in rw (z .0 .0, z .0 .1, z .0 .2, z .0 .3)

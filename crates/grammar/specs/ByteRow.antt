@@ -1,0 +1,23 @@
+-- Parts of a row of bytes are rows of bytes.
+use mathlib.Core.List.{List, [], _∷_, _++_}
+use Prim.Native.Nat.{ℕ, _<_}
+use lib.ListN.{take, drop, take-append-drop}
+use Rattle.meaning.specs.Grammar.{Char, bare, quoted, Bytes, no-byte, byte}
+
+pub bytes-left : (s t : List ℕ) → Bytes (s ++ t) → Bytes s
+bytes-left [] t h = no-byte
+bytes-left (b ∷ s) t (byte h r) = byte h (bytes-left s t r)
+
+pub bytes-right : (s : List ℕ) {t : List ℕ} → Bytes (s ++ t) → Bytes t
+bytes-right [] h = h
+bytes-right (b ∷ s) (byte h r) = bytes-right s r
+
+pub bytes-tail : {b : ℕ} {s : List ℕ} → Bytes (b ∷ s) → Bytes s
+bytes-tail (byte h r) = r
+
+pub bytes-take : (p : ℕ) (s : List ℕ) → Bytes s → Bytes (take p s)
+bytes-take p s h = bytes-left (take p s) (drop p s) (rw (take-append-drop p s) h)
+
+pub char-byte : {s : List ℕ} {x : ℕ} → Char s x → Bytes s → x < 256
+char-byte (bare p) (byte h r) = h
+char-byte quoted (byte h (byte g r)) = g

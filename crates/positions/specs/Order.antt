@@ -1,0 +1,32 @@
+-- The order of rows is strict, and there is one first tree.
+use mathlib.Core.Path.{_≡_, sym, _∙_}
+use mathlib.Core.List.{List}
+use mathlib.Core.Logic.{_⊎_, inl, inr}
+use Prim.Native.Nat.{ℕ}
+use native.Mathlib.Omega.{arith}
+use Rattle.meaning.specs.Expression.{Re}
+use Rattle.meaning.specs.Tree.{Before, b-here, b-longer, b-next, First}
+
+-- the order of rows is strict and total
+pub before-back : {r r′ : List ℕ} → Before r r′ → Before r′ r → ⊥
+before-back (b-here h) (b-here h′) = omega arith
+before-back (b-here h) (b-next i b) = omega arith
+before-back (b-next i b) (b-here h) = omega arith
+before-back (b-next i b) (b-next i′ b′) = before-back b b′
+
+pub before-trans : {r r′ r″ : List ℕ} → Before r r′ → Before r′ r″ → Before r r″
+before-trans (b-here {t = t} h) (b-here {t′ = t″} h′) = b-here {t = t} {t′ = t″} (omega arith)
+before-trans (b-here h) b-longer = b-longer
+before-trans (b-here {t = t} h) (b-next {t′ = t″} i b) = b-here {t = t} {t′ = t″} (omega arith)
+before-trans (b-next {t = t} i b) (b-here {t′ = t″} h) = b-here {t = t} {t′ = t″} (omega arith)
+before-trans (b-next i b) b-longer = b-longer
+before-trans (b-next i b) (b-next i′ b′) = b-next (i ∙ i′) (before-trans b b′)
+
+-- there is one first row
+first-apart : {r r′ : List ℕ} → (r ≡ r′) ⊎ Before r r′ → (r′ ≡ r) ⊎ Before r′ r → r ≡ r′
+first-apart (inl i) k = i
+first-apart (inr b) (inl i) = sym i
+first-apart (inr b) (inr b′) = absurd (before-back b b′)
+
+pub first-one : {e : Re} {s r r′ : List ℕ} → First e s r → First e s r′ → r ≡ r′
+first-one f f′ = first-apart (f .first _ (f′ .tree)) (f′ .first _ (f .tree))

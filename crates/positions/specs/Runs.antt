@@ -1,0 +1,64 @@
+-- The runs that the walks of the code make: what they write, where they end, and whether there was another way.
+use mathlib.Core.Bool.{Bool, false, _||_, cond}
+use mathlib.Core.List.{List, [], _∷_, _++_}
+use Prim.Native.Nat.{ℕ, suc, _+_}
+use lib.Dec.{ltb}
+use Rattle.meaning.specs.Expression.{Re, eps, pos, cat, alt, branch, star, plus, opt, marks, size}
+use Rattle.meaning.specs.Tree.{closing}
+use Rattle.positions.specs.Positions.{Out, pass, at}
+use Rattle.positions.specs.Tests.{leads, feasible}
+
+-- what a walk writes, where it ends, and whether there was another way
+pub data Run : Type 0 where
+  run : List ℕ → Out → Bool → Run
+
+abbrev pub rowOf : Run → List ℕ
+rowOf (run ρ o w) = ρ
+
+abbrev pub outOf : Run → Out
+outOf (run ρ o w) = o
+
+abbrev pub otherOf : Run → Bool
+otherOf (run ρ o w) = w
+
+-- s, where r passed
+abbrev pub andThen : Run → Run → Run
+andThen (run ρ (at q) w) s = run ρ (at q) w
+andThen (run ρ pass w) (run σ o v) = run (ρ ++ σ) o (w || v)
+
+abbrev pub put : ℕ → Run → Run
+put t (run ρ o w) = run (t ∷ ρ) o w
+
+-- there is another way too if c
+abbrev pub also : Bool → Run → Run
+also c (run ρ o w) = run ρ o (w || c)
+
+abbrev pub closes : ℕ → Run
+closes m = run (closing m ∷ []) pass false
+
+abbrev pub through : Run
+through = run [] pass false
+
+abbrev pub loop : ℕ → Bool → Bool → Run → Run
+loop m l b r = cond l (also b (put (suc m) r)) through
+
+unfoldable pub enterRun : ℕ → ℕ → Re → (ℕ → Bool) → Bool → Run
+enterRun m p eps g b = through
+enterRun m p (pos c) g b = run [] (at p) false
+enterRun m p (cat x y) g b = andThen (enterRun m p x g (feasible (p + size x) y g b)) (enterRun (m + marks x) (p + size x) y g b)
+enterRun m p (alt x y) g b = cond (feasible p x g b) (also (feasible (p + size x) y g b) (enterRun m p x g b)) (enterRun (m + marks x) (p + size x) y g b)
+enterRun m p (branch x) g b = andThen (put (suc m) (enterRun (suc m) p x g b)) (closes m)
+enterRun m p (star x) g b = loop m (leads p x g) b (enterRun (suc m) p x g false)
+enterRun m p (plus x) g b = andThen (put (suc m) (enterRun (suc m) p x g b)) (closes m)
+enterRun m p (opt x) g b = loop m (leads p x g) b (enterRun (suc m) p x g false)
+
+-- having just read position j of e
+unfoldable pub resumeRun : ℕ → ℕ → Re → ℕ → (ℕ → Bool) → Bool → Run
+resumeRun m p eps j g b = through
+resumeRun m p (pos c) j g b = through
+resumeRun m p (cat x y) j g b = cond (ltb j (p + size x)) (andThen (resumeRun m p x j g (feasible (p + size x) y g b)) (enterRun (m + marks x) (p + size x) y g b)) (resumeRun (m + marks x) (p + size x) y j g b)
+resumeRun m p (alt x y) j g b = cond (ltb j (p + size x)) (resumeRun m p x j g b) (resumeRun (m + marks x) (p + size x) y j g b)
+resumeRun m p (branch x) j g b = andThen (resumeRun (suc m) p x j g b) (closes m)
+resumeRun m p (star x) j g b = andThen (resumeRun (suc m) p x j g (leads p x g || b)) (put (closing m) (loop m (leads p x g) b (enterRun (suc m) p x g false)))
+resumeRun m p (plus x) j g b = andThen (resumeRun (suc m) p x j g (leads p x g || b)) (put (closing m) (loop m (leads p x g) b (enterRun (suc m) p x g false)))
+resumeRun m p (opt x) j g b = andThen (resumeRun (suc m) p x j g b) (closes m)
