@@ -1,0 +1,8 @@
+-- Laws of truth values, of tests below a bound, of a number's digits, of a word's, of words in a row and of ranges.
+pub mod Bools
+pub mod Tallies
+pub mod Digit
+pub mod Numbers
+pub mod Bits
+pub mod Rows
+pub mod Ranges

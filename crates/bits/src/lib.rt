@@ -1,0 +1,1 @@
+// Laws of binary digits, in specs/ and proofs/. There is no code here.

@@ -1,0 +1,62 @@
+-- What a caller's proof may want of classes beside the contracts. Assumes nothing.
+use mathlib.Core.Path.{_≡_, refl, sym, ap, _∙_}
+use mathlib.Core.Bool.{Bool, true, false, true≢false}
+use mathlib.Core.List.{List}
+use Prim.Native.Nat.{ℕ, _+_, _*_, _/_, _%_, _≤_, _<_}
+use native.Mathlib.Omega.{arith}
+use borrow.Author.Needs.{needs}
+use borrow.Author.Tests.{ltb-true, ltb-false}
+use lib.Dec.{ltb}
+use lib.ListN.{length, getD, List·getD-eq-default}
+use lib.Seq.{ext-getD}
+use mir.Syntax.{w64}
+use mir.Val.{Val, Fits}
+use denote.Laws.{Is}
+use Rattle.bits.specs.Bit.{bit}
+use Rattle.meaning.specs.ReadPattern.{binary}
+use Rattle.sets.specs.declared.class.Class.{Class}
+use Rattle.sets.specs.Classes.{among, ClassFits}
+use Rattle.sets.proofs.class.Class.{the-row}
+use Rattle.bits.proofs.Bits.{bit-none, bit-number, bit-binary}
+
+-- a parameter's `c .good` has the premise at its place, as `c .good .0`, and a call's result has it as `c .f .ok`
+pub class-fits : {k : Class} {vs : List Val} → Is the-row k vs → ClassFits k
+class-fits {k} {vs} h = record { four = search needs; fits = λ i. let f : Fits w64 (getD (k .words) i 0) = search needs in f .fits }
+
+pub among-lt : {k : Class} → ClassFits k → (q : ℕ) → among k q ≡ true → q < 256
+unfolding among
+among-lt {k} h q e = go (ltb q 256) refl
+  where
+    go : (t : Bool) → ltb q 256 ≡ t → q < 256
+    go true l = ltb-true q 256 l
+    go false l =
+        let past : length (k .words) ≤ q / 64 = omega (arith, h .four, ltb-false q 256 l) in
+        absurd (true≢false (sym e ∙ ap (λ (x : ℕ). bit 64 x (q % 64)) (List·getD-eq-default (k .words) 0 past) ∙ bit-none 64 (q % 64)))
+
+-- the words of a class that holds what f holds of
+pub class-word : (k : Class) (f : ℕ → Bool) → ClassFits k → ((q : ℕ) → q < 256 → among k q ≡ f q)
+    → (i : ℕ) → i < 4 → getD (k .words) i 0 ≡ binary 64 (λ j. f (64 * i + j))
+unfolding among
+class-word k f h e i l =
+    bit-number 64 (getD (k .words) i 0) (λ j. f (64 * i + j)) (h .fits i)
+    (λ p m.
+    let w : (64 * i + p) / 64 ≡ i = omega arith in
+    let d : (64 * i + p) % 64 ≡ p = omega arith in
+    sym (ap (λ (j : ℕ). bit 64 (getD (k .words) j 0) ((64 * i + p) % 64)) w ∙ ap (λ (j : ℕ). bit 64 (getD (k .words) i 0) j) d) ∙ e (64 * i + p) (omega arith))
+
+-- and a class with those words
+pub word-class : (k : Class) (f : ℕ → Bool) → ((i : ℕ) → i < 4 → getD (k .words) i 0 ≡ binary 64 (λ j. f (64 * i + j)))
+    → (q : ℕ) → q < 256 → among k q ≡ f q
+unfolding among
+word-class k f e q l =
+    let i = q / 64 in
+    ap (λ (x : ℕ). bit 64 x (q % 64)) (e i (omega arith)) ∙ bit-binary 64 (λ j. f (64 * i + j)) (q % 64) (omega arith) ∙ ap f (omega arith)
+
+pub same-class : {k l : Class} → ClassFits k → ClassFits l → ((q : ℕ) → q < 256 → among k q ≡ among l q) → k ≡ l
+same-class {k} {l} h m e =
+    ap made
+    (ext-getD 0 (k .words) (l .words) (h .four ∙ sym (m .four))
+    (λ i n. class-word k (among l) h e i (omega (arith, h .four)) ∙ sym (class-word l (among l) m (λ q _. refl) i (omega (arith, h .four)))))
+  where
+    made : List ℕ → Class
+    made w = record { words = w }

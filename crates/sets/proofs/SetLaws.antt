@@ -1,0 +1,116 @@
+-- What a caller's proof may want of sets beside the contracts. Assumes nothing.
+use mathlib.Core.Path.{_≡_, refl, sym, ap, ap₂, _∙_}
+use mathlib.Core.Bool.{Bool, true, false, _&&_, _||_, not, or-true}
+use mathlib.Core.Logic.{_⊎_, inl, inr, ⊎-elim}
+use mathlib.Core.List.{List}
+use Prim.Native.Nat.{ℕ, _≤_, _<_}
+use native.Mathlib.Omega.{arith}
+use lib.Dec.{eqb}
+use lib.ListN.{getD}
+use mir.Syntax.{w64}
+use mir.Val.{Val, Fits}
+use denote.Laws.{Is}
+use borrow.Author.Tests.{ne-eqb, not-true, not-false}
+use Rattle.sets.specs.declared.set.Set.{Set}
+use Rattle.sets.specs.Members.{has, limit, size, vacant, meets, Least, SetFits, row}
+use Rattle.sets.proofs.set.Set.{the-row}
+use Rattle.bits.proofs.Bools.{same, and-split, and-join, or-split}
+use Rattle.bits.proofs.Bits.{bit-lt, bit-same}
+use Rattle.bits.proofs.Tallies.{any-at, any-none, any-some, tally-less}
+
+-- ---- a set's members
+
+module _ (s : Set) where
+  pub has-lt : (p : ℕ) → has s p ≡ true → p < limit
+  unfolding has
+  has-lt p e = bit-lt limit (s .bits) p e
+
+  -- past the limit there is none
+  none : ((q : ℕ) → q < limit → has s q ≡ false) → (q : ℕ) → has s q ≡ false
+  none g q = go (has s q) refl
+    where
+      go : (t : Bool) → has s q ≡ t → has s q ≡ false
+      go true e = g q (has-lt q e)
+      go false e = e
+
+  pub vacant-none : vacant s ≡ true → (q : ℕ) → has s q ≡ false
+  unfolding vacant
+  vacant-none e = none (any-none (has s) limit (not-true _ e))
+
+  pub vacant-some : vacant s ≡ false → (q : ℕ) × (has s q ≡ true)
+  unfolding vacant
+  vacant-some e = let w = any-some (has s) limit (not-false _ e) in (w .0, w .2)
+
+  pub member-or-none : ((q : ℕ) × (has s q ≡ true)) ⊎ ((q : ℕ) → has s q ≡ false)
+  member-or-none = go (vacant s) refl
+    where
+      go : (t : Bool) → vacant s ≡ t → ((q : ℕ) × (has s q ≡ true)) ⊎ ((q : ℕ) → has s q ≡ false)
+      go true e = inr (vacant-none e)
+      go false e = inl (vacant-some e)
+
+  -- where the least member is the limit there is none
+  pub least-none : (r : ℕ) → Least s r → limit ≤ r → (q : ℕ) → has s q ≡ false
+  least-none r l h = none (λ q k. l .below q (omega arith))
+
+-- ---- two sets that meet
+
+module _ (s t : Set) where
+  pub meets-at : (q : ℕ) → has s q ≡ true → has t q ≡ true → meets s t ≡ true
+  unfolding meets
+  meets-at q e f = any-at (λ q. has s q && has t q) limit q (has-lt s q e) (and-join e f)
+
+  pub meets-some : meets s t ≡ true → (q : ℕ) × (has s q ≡ true) × (has t q ≡ true)
+  unfolding meets
+  meets-some e =
+      let w = any-some (λ q. has s q && has t q) limit e in
+      let b = and-split (has s (w .0)) (has t (w .0)) (w .2) in
+      (w .0, b .0, b .1)
+
+-- what a union meets
+pub meets-union : (a b u t : Set) → ((q : ℕ) → has u q ≡ (has a q || has b q)) → meets u t ≡ (meets a t || meets b t)
+meets-union a b u t joined = same _ _ there back
+  where
+    there : meets u t ≡ true → (meets a t || meets b t) ≡ true
+    there e =
+        let w = meets-some u t e in
+        ⊎-elim (λ h. ap (λ (x : Bool). x || meets b t) (meets-at a t (w .0) h (w .2)))
+        (λ h. ap (λ (x : Bool). meets a t || x) (meets-at b t (w .0) h (w .2)) ∙ or-true (meets a t))
+        (or-split (has a (w .0)) (has b (w .0)) (sym (joined (w .0)) ∙ w .1))
+
+    back : (meets a t || meets b t) ≡ true → meets u t ≡ true
+    back e =
+        ⊎-elim
+        (λ h. let w = meets-some a t h in meets-at u t (w .0) (joined (w .0) ∙ ap (λ (x : Bool). x || has b (w .0)) (w .1)) (w .2))
+        (λ h. let w = meets-some b t h in meets-at u t (w .0) (joined (w .0) ∙ ap (λ (x : Bool). has a (w .0) || x) (w .1) ∙ or-true (has a (w .0))) (w .2))
+        (or-split (meets a t) (meets b t) e)
+
+-- ---- r is s without p: a loop over the members has `size` as its measure
+
+module _ (s r : Set) (p : ℕ) (less : (q : ℕ) → has r q ≡ (has s q && not (eqb q p))) where
+  pub without-fewer : has s p ≡ true → size r < size s
+  unfolding size
+  without-fewer e = tally-less (has s) (has r) limit p (has-lt s p e) e less
+
+  pub without-was : (q : ℕ) → has r q ≡ true → has s q ≡ true
+  without-was q e = and-split (has s q) (not (eqb q p)) (sym (less q) ∙ e) .0
+
+  pub without-stays : (q : ℕ) → has s q ≡ true → (q ≡ p → ⊥) → has r q ≡ true
+  without-stays q e n = less q ∙ ap₂ (λ (a b : Bool). a && not b) e (ne-eqb q p n)
+
+-- ---- members settle a set that code holds
+
+-- a parameter's `c .good` has the premise at its place, as `c .good .0`, and a call's result has it as `c .f .ok`
+pub set-fits : {s : Set} {vs : List Val} → Is the-row s vs → SetFits s
+set-fits h = record { fits = omega arith }
+
+-- a `&[u64]` has the premise as `c .shared-slice-known .given`, a `&mut [u64]` as `c .slice-known .given`
+pub row-fits : (l : List ℕ) (p : ℕ) → ((i : ℕ) → Fits w64 (getD l i 0)) → SetFits (row l p)
+unfolding row
+row-fits l p h = record { fits = h p .fits }
+
+pub same-set : {s t : Set} → SetFits s → SetFits t → ((q : ℕ) → has s q ≡ has t q) → s ≡ t
+unfolding has
+same-set {s} {t} h l e = ap made (bit-same limit (s .bits) (t .bits) (h .fits) (l .fits) (λ p _. e p))
+  where
+    made : ℕ → Set
+    made n = record { bits = n }

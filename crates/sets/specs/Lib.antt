@@ -1,0 +1,3 @@
+-- Membership of a set and of a class: what the contracts cite.
+pub mod Members
+pub mod Classes

@@ -1,0 +1,3 @@
+// Sets of positions and classes of bytes, by value.
+pub mod class;
+pub mod set;
