@@ -106,7 +106,7 @@ low-bad (char-end h) r w = w (λ l. absurd (omega arith))
 low-bad (char-stray h x) r w = w (λ l. x)
 low-bad {s} {i} {c = c} {F = F} {K = K} (char-cut h e) r w = cut-off (i + 1) (inside (m-quote c) F K) h (on s i (seen s i) 92 (omega arith) refl e ∙ ranged-quote r) refl refl
 
--- the machine dies of the byte b at i
+-- the machine dies of the byte at i
 dies-of : {s : List ℕ} (i : ℕ) (st : State) → i < length s → seen s i ≡ st → alive st ≡ true → step st (getD s i 0) ≡ dead → Stops s i
 dies-of {s} i st h q a k = record
     { within = omega arith; live = ap alive q ∙ a; dies = λ l. ap (λ (x : State). step x (getD s i 0)) q ∙ k; unfinished = λ l. absurd (omega arith) }

@@ -5,11 +5,13 @@ use mathlib.Core.List.{List, [], _∷_}
 use Prim.Native.Nat.{ℕ}
 use lib.Dec.{T, eqb, ltb, eqb→eq, ltb→lt}
 use Rattle.meaning.specs.Expression.{Re, eps, pos, cat, alt, branch, star, opt}
+use Rattle.meaning.specs.Grammar.{Is, a-branch, literal, group, once, optional, item-one, item-more, front-one, lone, several}
 use Rattle.meaning.specs.Grammar.{any, only, range, either, Pattern, Bytes, no-byte, byte}
 use Rattle.meaning.specs.Tree.{Tree, t-pos, letter}
 use Rattle.grammar.specs.Machine.{kind, inner, start, run, Answer, none, read, result}
 use Rattle.grammar.specs.Viable.{accepted}
 use Rattle.grammar.specs.Place.{place, Mistake, refused}
+use Rattle.grammar.specs.Numbering.{extent, extents}
 use Rattle.grammar.specs.Each.{Each, each-map, every, both, each-passes}
 
 pub data Line : Type 0 where
@@ -113,3 +115,15 @@ class-of-caret = accepted _ refl
 pub empty-group : Pattern (40 ∷ 41 ∷ []) eps 1
 unfolding kind inner
 empty-group = accepted _ refl
+
+-- (a|ab)b?
+pub three-marks : Pattern (40 ∷ 97 ∷ 124 ∷ 97 ∷ 98 ∷ 41 ∷ 98 ∷ 63 ∷ []) (cat (alt (branch (ch 97)) (branch (cat (ch 97) (ch 98)))) (opt (ch 98))) 1
+three-marks = lone (item-more (item-one (once (group (several (front-one one-letter) (item-more one-letter (once (literal refl))))))) (optional (literal refl)))
+  where
+    one-letter : Is a-branch (97 ∷ []) (ch 97) 0
+    one-letter = item-one (once (literal refl))
+
+-- mark 1 is the branch a, mark 2 the branch ab, mark 3 is b?
+pub three-extents : extents 0 three-marks ≡ extent 1 2 ∷ extent 3 5 ∷ extent 6 8 ∷ []
+unfolding three-marks extents
+three-extents = refl

@@ -1,4 +1,4 @@
--- The laws of patterns.
+-- The laws of patterns: a machine that reads them and what follows from it, the numbering of marks, and what a reader of patterns says of itself.
 pub mod Machine
 pub mod Reads
 pub mod Sound
@@ -10,6 +10,7 @@ pub mod Each
 pub mod Fair
 pub mod Open
 pub mod Numbering
+pub mod MarkedParts
 pub mod Examples
 pub mod Contract
 pub mod ClassContract

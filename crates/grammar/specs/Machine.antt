@@ -7,15 +7,15 @@ use lib.Dec.{leb, eqb}
 use Rattle.meaning.specs.Expression.{Re, eps, pos, cat, alt, branch, star, plus, opt}
 use Rattle.meaning.specs.Grammar.{any, range, only, either}
 
--- what a byte is outside a class
-pub data Sym : Type 0 where
-  s-open s-close s-bar s-dot s-class s-back s-bad s-plain : Sym
-
 -- a byte that repeats the atom before it, and how
 pub data Sign : ℕ → (Re → Re) → Type 0 where
   is-star : Sign 42 star
   is-plus : Sign 43 plus
   is-opt : Sign 63 opt
+
+-- what a byte is outside a class: such a sign, or one of ( ) | . [ \ ] and all others
+pub data Sym : Type 0 where
+  s-open s-close s-bar s-dot s-class s-back s-bad s-plain : Sym
 
 pub data Kind : Type 0 where
   sign : (Re → Re) → Kind
@@ -34,14 +34,14 @@ sign-kind is-star = refl
 sign-kind is-plus = refl
 sign-kind is-opt = refl
 
--- and inside one
+-- what a byte is inside a class: [ ] - \ and all others
 pub data Inner : Type 0 where
   n-open n-close n-dash n-back n-char : Inner
 
 unfoldable pub inner : ℕ → Inner
 inner b = cond (eqb b 91) n-open (cond (eqb b 93) n-close (cond (eqb b 45) n-dash (cond (eqb b 92) n-back n-char)))
 
--- the branches read, each with its |
+-- the branches read of this list, each with the | behind it
 pub data Front : Type 0 where
   first : Front
   after : Re → Front
@@ -56,10 +56,11 @@ pub data Acc : Type 0 where
   empty : Acc
   ranges : (ℕ → Bool) → Acc
 
--- what is read of a list, but for its last atom; d deep
+-- what is read of a list but for its last atom, and how deep that nests
 pub data Frame : Type 0 where
   frame : Front → Left → ℕ → Frame
 
+-- where in a class the machine is: before an item, behind a \, behind the end x of an item, behind its dash, behind a \ after that
 pub data Mode : Type 0 where
   m-next : Acc → Mode
   m-quote : Acc → Mode
@@ -67,7 +68,8 @@ pub data Mode : Type 0 where
   m-dash : Acc → ℕ → Mode
   m-dash-quote : Acc → ℕ → Mode
 
--- the frames are those of the list being read and of those around it
+-- Where the machine is: before an item or behind a sign, behind an atom, behind a \, in a class, or past a mistake. The frames are those of
+-- the list being read and of the lists around it.
 pub data State : Type 0 where
   ready : Frame → List Frame → State
   atom : Re → ℕ → Frame → List Frame → State
@@ -81,6 +83,7 @@ fresh = frame first no-items 0
 abbrev pub start : State
 start = ready fresh []
 
+-- one more item; one more branch, with a | behind it or as the last; one more class item
 abbrev pub join-left : Left → Re → Re
 join-left no-items e = e
 join-left (items x) e = cat x e
@@ -100,7 +103,7 @@ abbrev pub add : Acc → (ℕ → Bool) → ℕ → Bool
 add empty g = g
 add (ranges f) g = either f g
 
--- a byte that is no sign
+-- a byte that is no sign, behind whole items
 abbrev pub act-bar : Frame → List Frame → State
 act-bar (frame f no-items d) K = dead
 act-bar (frame f (items x) d) K = ready (frame (after (bar f x)) no-items d) K
@@ -129,6 +132,7 @@ abbrev pub on-atom : Re → ℕ → Frame → List Frame → ℕ → Kind → St
 on-atom e d F K b (sign f) = ready (join F (f e) d) K
 on-atom e d F K b (symbol y) = act (join F e d) K b y
 
+-- a byte in a class: before an item, behind the end x of one, the higher end, behind a dash
 abbrev pub next : Acc → Frame → List Frame → ℕ → Inner → State
 next c F K b n-open = dead
 next empty F K b n-close = dead
@@ -161,6 +165,7 @@ on-inside (m-low c x) F K b = low c x F K b (inner b)
 on-inside (m-dash c x) F K b = dash c x F K b (inner b)
 on-inside (m-dash-quote c x) F K b = high c x F K b
 
+-- one byte; a row of bytes
 abbrev pub step : State → ℕ → State
 step (ready F K) b = on-ready F K b (kind b)
 step (atom e d F K) b = on-atom e d F K b (kind b)
@@ -172,6 +177,7 @@ abbrev pub run : State → List ℕ → State
 run st [] = st
 run st (b ∷ s) = run (step st b) s
 
+-- what the bytes read so far denote, and how deep they nest, if they are a pattern
 pub data Answer : Type 0 where
   none : Answer
   read : Re → ℕ → Answer

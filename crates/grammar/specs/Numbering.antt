@@ -15,7 +15,7 @@ pub record Extent : Type 0 where
   pub from : ℕ
   pub to : ℕ
 
-abbrev extent : ℕ → ℕ → Extent
+abbrev pub extent : ℕ → ℕ → Extent
 extent i j = record { from = i; to = j }
 
 -- The extents of the marked parts, in the order of their numbers, where the part read starts at byte i: a branch of a list, and an item with
@@ -26,11 +26,11 @@ extents i escaped = []
 extents i dot = []
 extents i (class c) = []
 extents i unit = []
-extents i (group p) = extents (suc i) p
+extents i (group p) = extents (i + 1) p
 extents i (once a) = extents i a
-extents i (starred {s = s} a) = extent i (i + length s + 1) ∷ extents i a
-extents i (plussed {s = s} a) = extent i (i + length s + 1) ∷ extents i a
-extents i (optional {s = s} a) = extent i (i + length s + 1) ∷ extents i a
+extents i (starred {s = s} a) = extent i (i + length (s ++ 42 ∷ [])) ∷ extents i a
+extents i (plussed {s = s} a) = extent i (i + length (s ++ 43 ∷ [])) ∷ extents i a
+extents i (optional {s = s} a) = extent i (i + length (s ++ 63 ∷ [])) ∷ extents i a
 extents i (item-one a) = extents i a
 extents i (item-more {s = s} b a) = extents i b ++ extents (i + length s) a
 extents i (front-one {s = s} b) = extent i (i + length s) ∷ extents i b
@@ -46,7 +46,7 @@ extents-marks i escaped = refl
 extents-marks i dot = refl
 extents-marks i (class c) = refl
 extents-marks i unit = refl
-extents-marks i (group p) = extents-marks (suc i) p
+extents-marks i (group p) = extents-marks (i + 1) p
 extents-marks i (once a) = extents-marks i a
 extents-marks i (starred a) = ap suc (extents-marks i a)
 extents-marks i (plussed a) = ap suc (extents-marks i a)
@@ -69,10 +69,10 @@ pub data Ordered : List Extent → Type 0 where
   ordered-more : {x : Extent} {l : List Extent} → Each (Leads x) l → Ordered l → Ordered (x ∷ l)
 
 -- x holds a byte, and lies in the bytes from i up to j
-record Lies (i j : ℕ) (x : Extent) : Type 0 where
-  from-in : i ≤ x .from
-  some : x .from < x .to
-  to-in : x .to ≤ j
+pub record Lies (i j : ℕ) (x : Extent) : Type 0 where
+  pub from-in : i ≤ x .from
+  pub some : x .from < x .to
+  pub to-in : x .to ≤ j
 
 -- rows of extents in one stretch of bytes, then in the next
 ordered-append : {i j k : ℕ} {l m : List Extent} → Each (Lies i j) l → Ordered l → Each (Lies j k) m → Ordered m → Ordered (l ++ m)
@@ -105,8 +105,8 @@ good-none : {i j : ℕ} → Good i j []
 good-none = record { inside = each-none; ordered = ordered-none }
 
 -- with its sign
-signed : {i : ℕ} {l : List Extent} (b : ℕ) (s : List ℕ) → Good i (i + length s) l → Good i (i + length (s ++ b ∷ [])) (extent i (i + length s + 1) ∷ l)
-signed {i} b s r = wider (omega arith) (simp length-append (omega arith)) (under (omega arith) (omega arith) r)
+signed : {i : ℕ} {l : List Extent} (b : ℕ) (s : List ℕ) → Good i (i + length s) l → Good i (i + length (s ++ b ∷ [])) (extent i (i + length (s ++ b ∷ [])) ∷ l)
+signed {i} b s r = under (simp length-append (omega arith)) (simp length-append (omega arith)) r
 
 -- a branch behind others
 beside : {i j k : ℕ} {l m : List Extent} → i ≤ j → j < k → Good i j l → Good j k m → Good i k (l ++ (extent j k ∷ m))
@@ -119,7 +119,7 @@ good i escaped = good-none
 good i dot = good-none
 good i (class c) = good-none
 good i unit = good-none
-good i (group {s = s} p) = wider (omega arith) (simp length-append (omega arith)) (good (suc i) p)
+good i (group {s = s} p) = wider (omega arith) (simp length-append (omega arith)) (good (i + 1) p)
 good i (once a) = good i a
 good i (starred {s = s} a) = signed 42 s (good i a)
 good i (plussed {s = s} a) = signed 43 s (good i a)
@@ -130,6 +130,9 @@ good i (front-one {s = s} b) = wider (omega arith) (simp length-append (omega ar
 good i (front-more {s = s} {t = t} f b) = wider (omega arith) (simp length-append (omega arith)) (beside (omega arith) (omega (arith, full b)) (good i f) (good (i + length s) b))
 good i (lone b) = good i b
 good i (several {s = s} {t = t} f b) = wider (omega arith) (simp length-append (omega arith)) (beside (omega arith) (omega (arith, full b)) (good i f) (good (i + length s) b))
+
+pub extents-inside : {s : List ℕ} {e : Re} {d : ℕ} (q : Pattern s e d) → Each (Lies 0 (length s)) (extents 0 q)
+extents-inside {s} q = let h : 0 + length s ≡ length s = omega arith in rw h at (good 0 q .inside)
 
 pub extents-ordered : {s : List ℕ} {e : Re} {d : ℕ} (q : Pattern s e d) → Ordered (extents 0 q)
 extents-ordered q = good 0 q .ordered

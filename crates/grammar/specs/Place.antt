@@ -1,6 +1,6 @@
 -- The place of a mistake: the longest beginning of a row that begins a pattern ends where the machine stops.
 use mathlib.Core.Path.{_≡_, refl, sym, _∙_, ap}
-use mathlib.Core.Bool.{Bool, true, false, cond}
+use mathlib.Core.Bool.{Bool, true, false, cond, true≢false}
 use mathlib.Core.List.{List, [], _∷_}
 use mathlib.Core.Logic.{_⊎_, inl, inr}
 use Prim.Native.Nat.{ℕ, suc, _+_, _≤_, _<_}
@@ -13,7 +13,7 @@ use Rattle.meaning.specs.Expression.{Re}
 use Rattle.meaning.specs.Grammar.{Pattern, Bytes, Viable, Longest}
 use Rattle.grammar.specs.Machine.{State, ready, atom, quote, inside, dead, start, step, run, Answer, none, read, result, alive, run-append, run-dead}
 use Rattle.grammar.specs.ByteRow.{bytes-take}
-use Rattle.grammar.specs.Reads.{accepts, true-false}
+use Rattle.grammar.specs.Reads.{accepts}
 use Rattle.grammar.specs.Viable.{alive-viable, viable-alive, none-read, accepted}
 
 -- the state that the first i bytes of s lead to
@@ -49,7 +49,7 @@ pub stops-longest : {s : List ℕ} {p : ℕ} → Bytes s → Stops s p → Longe
 stops-longest {s} {p} b h = record { within = h .within; begins = alive-viable (take p s) (bytes-take p s b) (h .live); last = last }
   where
     last : (q : ℕ) → q ≤ length s → Viable (take q s) → q ≤ p
-    last q g v = elim (decLe q p) [ yes e ↦ e | no n ↦ true-false (sym (viable-alive (take q s) v) ∙ ap alive (gone q h (omega arith) g)) ]
+    last q g v = elim (decLe q p) [ yes e ↦ e | no n ↦ absurd (true≢false (sym (viable-alive (take q s) v) ∙ ap alive (gone q h (omega arith) g))) ]
 
 pub stops-refused : {s : List ℕ} {p : ℕ} {e : Re} {d : ℕ} → Stops s p → Pattern s e d → ⊥
 stops-refused {s} {p} h r = none-read (sym (elim (decLe (length s) p) [ yes l ↦ at-end (omega (arith, h .within)) | no l ↦ before (omega arith) ]) ∙ accepts r)
@@ -72,10 +72,10 @@ abbrev pub place : List ℕ → ℕ
 place = halt start
 
 not-alive : (st : State) → alive st ≡ false → st ≡ dead
-not-alive (ready F K) e = true-false e
-not-alive (atom x d F K) e = true-false e
-not-alive (quote F K) e = true-false e
-not-alive (inside m F K) e = true-false e
+not-alive (ready F K) e = absurd (true≢false e)
+not-alive (atom x d F K) e = absurd (true≢false e)
+not-alive (quote F K) e = absurd (true≢false e)
+not-alive (inside m F K) e = absurd (true≢false e)
 not-alive dead e = refl
 
 halts : (st : State) (s : List ℕ) → alive st ≡ true → result (run st s) ≡ none → Halts st s (halt st s)

@@ -1,6 +1,6 @@
 -- The machine accepts every pattern, with what it denotes: so a pattern has one reading.
 use mathlib.Core.Path.{_≡_, refl, _∙_, ap}
-use mathlib.Core.Bool.{Bool, true, false, _||_}
+use mathlib.Core.Bool.{Bool, true, false, _||_, true≢false}
 use mathlib.Core.List.{List, [], _∷_, _++_}
 use Prim.Native.Nat.{ℕ, suc, _≤_, max}
 use native.Mathlib.Omega.{arith}
@@ -14,15 +14,13 @@ use Rattle.grammar.specs.Machine.{Sym, s-open, s-close, s-bar, s-dot, s-
 use Rattle.grammar.specs.Machine.{Front, first, after, no-items, items, Acc, empty, ranges, Frame, frame, m-next, m-low, m-dash, State, ready, atom, inside}
 use Rattle.grammar.specs.Machine.{fresh, start, join, shut, add, act, step, run, Answer, read, whole, result, run-append}
 
-pub true-false : {A : Type 0} → true ≡ false → A
-true-false e = let z : _≡_ {A = ℕ} 0 1 = cc in absurd (omega arith)
-
+-- b differs from each byte of a row
 data Apart : List ℕ → ℕ → Type 0 where
   end : {b : ℕ} → Apart [] b
   with : {x b : ℕ} {l : List ℕ} → eqb b x ≡ false → Apart l b → Apart (x ∷ l) b
 
 apart-cons : (t y : Bool) {x b : ℕ} {l : List ℕ} → eqb b x ≡ t → (t || y) ≡ false → (y ≡ false → Apart l b) → Apart (x ∷ l) b
-apart-cons true y e h r = true-false h
+apart-cons true y e h r = absurd (true≢false h)
 apart-cons false y e h r = with e (r h)
 
 apart : (l : List ℕ) (b : ℕ) → one-of l b ≡ false → Apart l b
@@ -91,6 +89,7 @@ pub close-list : {st : State} {e : Re} {d : ℕ} {G : Frame} {K : List Frame} �
 unfolding kind
 close-list (ends σ) = settled 41 s-close σ refl
 
+-- what the machine makes of each part of a pattern
 abbrev Claim : Part → List ℕ → Re → ℕ → Type 0
 Claim an-atom s e d = (st : State) (F : Frame) (K : List Frame) → Settles st F K → run st s ≡ atom e d F K
 Claim an-item s e d = (st : State) (F : Frame) (K : List Frame) → Settles st F K → Settles (run st s) (join F e d) K

@@ -15,7 +15,7 @@ use Rattle.grammar.specs.Machine.{Front, first, after, Left, no-items, i
 use Rattle.grammar.specs.Machine.{start, join, join-left, bar, shut, add, act, act-bar, act-close, on-ready, on-atom, next, low, dash, high, on-inside, step, run}
 
 -- a byte and what it is
-pub data Known : ℕ → Kind → Type 0 where
+data Known : ℕ → Kind → Type 0 where
   k-open : Known 40 (symbol s-open)
   k-close : Known 41 (symbol s-close)
   k-bar : Known 124 (symbol s-bar)
@@ -26,7 +26,7 @@ pub data Known : ℕ → Kind → Type 0 where
   k-back : Known 92 (symbol s-back)
   k-plain : {b : ℕ} → one-of signs b ≡ false → Known b (symbol s-plain)
 
--- one test after the other
+-- P holds of a number that is tested against x
 test : {A : Type 0} (P : ℕ → A → Type 0) (b x : ℕ) (a z : A) → P x a → (eqb b x ≡ false → P b z) → P b (cond (eqb b x) a z)
 test P b x a z yes-case no-case = go (eqb b x) refl
   where
@@ -40,7 +40,7 @@ known b = test Known b 40 _ _ k-open λ a. test Known b 41 _ _ k-close λ c. tes
     test Known b 43 _ _ (k-sign is-plus) λ f. test Known b 63 _ _ (k-sign is-opt) λ g. test Known b 46 _ _ k-dot λ h. test Known b 91 _ _ k-class λ i.
     test Known b 93 _ _ k-bad λ j. test Known b 92 _ _ k-back λ k. k-plain (rw (a, c, d, e, f, g, h, i, j, k))
 
-pub data Inner-known : ℕ → Inner → Type 0 where
+data Inner-known : ℕ → Inner → Type 0 where
   i-open : Inner-known 91 n-open
   i-close : Inner-known 93 n-close
   i-dash : Inner-known 45 n-dash
@@ -52,7 +52,8 @@ unfolding inner
 inner-known b = test Inner-known b 91 _ _ i-open λ a. test Inner-known b 93 _ _ i-close λ c. test Inner-known b 45 _ _ i-dash λ d.
     test Inner-known b 92 _ _ i-back λ e. i-char (rw (a, c, d, e))
 
--- the text of what a state has read
+-- The bytes of what is read: of the branches before this one, of this branch, of a list, of the lists around it and this one, of a class,
+-- and of all that a state has read.
 pub data FrontOf : Front → List ℕ → ℕ → Type 0 where
   no-front : FrontOf first [] 0
   some-front : {s : List ℕ} {a : Re} {d : ℕ} → Is fronts s a d → FrontOf (after a) s d
@@ -188,14 +189,14 @@ inside-sound b B (o-low a r) = low-sound B a r (inner-known b)
 inside-sound b B (o-dash a r) = dash-sound B a r (inner-known b)
 inside-sound b B (o-dash-quote {s = t} {t = u} a r) = rw (append-assoc t (u ++ 45 ∷ 92 ∷ []) (b ∷ []), append-assoc u (45 ∷ 92 ∷ []) (b ∷ [])) (high-sound B a r quoted)
 
-pub step-sound : {st : State} {s : List ℕ} (b : ℕ) → Inv st s → Inv (step st b) (s ++ b ∷ [])
+step-sound : {st : State} {s : List ℕ} (b : ℕ) → Inv st s → Inv (step st b) (s ++ b ∷ [])
 step-sound b (v-ready B) = ready-sound B (known b)
 step-sound b (v-atom B a) = atom-sound B a (known b)
 step-sound b (v-quote {s = s} B) = rw (append-assoc s (92 ∷ []) (b ∷ [])) (v-atom B escaped)
 step-sound b (v-inside {s = s} {t = t} B m) = rw (append-assoc s (91 ∷ t) (b ∷ [])) (inside-sound b B m)
 step-sound b v-dead = v-dead
 
-pub run-sound : {st : State} {s : List ℕ} (t : List ℕ) → Inv st s → Inv (run st t) (s ++ t)
+run-sound : {st : State} {s : List ℕ} (t : List ℕ) → Inv st s → Inv (run st t) (s ++ t)
 run-sound {s = s} [] v = rw append-nil v
 run-sound {s = s} (b ∷ t) v = rw (append-assoc s (b ∷ []) t) at (run-sound t (step-sound b v))
 

@@ -1,20 +1,20 @@
 -- A row begins a pattern exactly if the machine is alive after it; what the machine accepts is a pattern.
 use mathlib.Core.Path.{_≡_, refl, sym, subst}
-use mathlib.Core.Bool.{true}
+use mathlib.Core.Bool.{true, true≢false}
 use mathlib.Core.List.{List, [], _∷_, _++_}
+use mathlib.Core.Logic.{_↔_}
 use Prim.Native.Nat.{ℕ, suc, max}
 use native.Mathlib.Omega.{arith}
 use borrow.Author.Tests.{le-leb}
 use lib.Dec.{lit<}
 use Rattle.meaning.specs.Expression.{Re}
-use Rattle.meaning.specs.Grammar.{Is, a-list, Pattern, range, Bytes, no-byte, byte, Viable}
+use Rattle.meaning.specs.Grammar.{Is, a-list, once, Pattern, range, Bytes, no-byte, byte, Viable}
 use Rattle.grammar.specs.Machine.{kind, inner}
 use Rattle.grammar.specs.Machine.{Acc, empty, ranges, Frame, frame, Mode, m-next, m-quote, m-low, m-dash, m-dash-quote, State, ready, atom, quote, inside, dead}
 use Rattle.grammar.specs.Machine.{start, join-left, shut, add, high, step, run, none, read, whole, result, alive, run-append, run-dead}
 use Rattle.grammar.specs.ByteRow.{bytes-left, bytes-right, bytes-tail, char-byte}
-use Rattle.grammar.specs.Reads.{accepts, true-false}
+use Rattle.grammar.specs.Reads.{accepts}
 use Rattle.grammar.specs.Sound.{no-left, some-left, FrameOf, frame-of, Before, base, Inv, v-ready, v-atom, v-quote, v-inside, v-dead, no-acc, some-acc, ModeOf, o-next, o-quote, o-low, o-dash, o-dash-quote, start-sound, shut-list, before-join}
-use Rattle.meaning.specs.Grammar.{once}
 
 pub none-read : {A : Type 0} {e : Re} {d : ℕ} → none ≡ read e d → A
 none-read e = let z : _≡_ {A = ℕ} 0 1 = cc in absurd (omega arith)
@@ -42,15 +42,15 @@ inv-list v-dead q = none-read q
 pub accepted : {e : Re} {d : ℕ} (s : List ℕ) → result (run start s) ≡ read e d → Pattern s e d
 accepted s q = inv-list (start-sound s) q
 
--- what is alive can be completed
-pub data Accepting (st : State) : Type 0 where
+-- what is alive can be completed: by an item where one is due, the rest of a class, and a ) for each open group
+data Accepting (st : State) : Type 0 where
   accepting : {e : Re} {d : ℕ} → result st ≡ read e d → Accepting st
 
-abbrev pub closes : List Frame → List ℕ
+abbrev closes : List Frame → List ℕ
 closes [] = []
 closes (G ∷ K) = 41 ∷ closes K
 
-abbrev pub close-mode : Mode → List ℕ → List ℕ
+abbrev close-mode : Mode → List ℕ → List ℕ
 close-mode (m-next empty) t = 97 ∷ 93 ∷ t
 close-mode (m-next (ranges f)) t = 93 ∷ t
 close-mode (m-quote c) t = 97 ∷ 93 ∷ t
@@ -58,7 +58,7 @@ close-mode (m-low c x) t = 93 ∷ t
 close-mode (m-dash c x) t = 92 ∷ x ∷ 93 ∷ t
 close-mode (m-dash-quote c x) t = x ∷ 93 ∷ t
 
-abbrev pub fill : State → List ℕ
+abbrev fill : State → List ℕ
 fill (ready F K) = 97 ∷ closes K
 fill (atom e d F K) = closes K
 fill (quote F K) = 97 ∷ closes K
@@ -91,9 +91,9 @@ fill-accepts (ready F K) h = closes-accept K _ _ F
 fill-accepts (atom e d F K) h = closes-accept K e d F
 fill-accepts (quote F K) h = closes-accept K _ _ F
 fill-accepts (inside m F K) h = mode-accept m F K
-fill-accepts dead h = true-false (sym h)
+fill-accepts dead h = absurd (true≢false (sym h))
 
--- of bytes by bytes
+-- and where the bytes read are bytes, so are these
 bytes-closes : (K : List Frame) → Bytes (closes K)
 bytes-closes [] = no-byte
 bytes-closes (G ∷ K) = byte (lit< tt) (bytes-closes K)
@@ -128,3 +128,6 @@ alive-result dead t q = none-read (rw (run-dead t) at q)
 
 pub viable-alive : (s : List ℕ) → Viable s → alive (run start s) ≡ true
 viable-alive s v = alive-result (run start s) (v .rest) (rw (run-append start s (v .rest)) at (accepts (v .whole)))
+
+pub alive-exactly : (s : List ℕ) → Bytes s → (alive (run start s) ≡ true) ↔ Viable s
+alive-exactly s b = (alive-viable s b, viable-alive s)
