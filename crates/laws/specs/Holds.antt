@@ -67,10 +67,10 @@ pub record Stands (l : List ℕ) (t : List ℕ) (k : ℕ) : Type 0 where
   pub within : k + length l ≤ length t
   pub here : (j : ℕ) → j < length l → getD t (k + j) 0 ≡ getD l j 0
 
-stands-left : {t : List ℕ} {k : ℕ} (a b : List ℕ) → Stands (a ++ b) t k → Stands a t k
+pub stands-left : {t : List ℕ} {k : ℕ} (a b : List ℕ) → Stands (a ++ b) t k → Stands a t k
 stands-left a b s = let h = length-append a b in record { within = omega (arith, s .within); here = λ j l. s .here j (omega arith) ∙ List·getD-append a b 0 j l }
 
-stands-right : {t : List ℕ} {k : ℕ} (a b : List ℕ) → Stands (a ++ b) t k → Stands b t (k + length a)
+pub stands-right : {t : List ℕ} {k : ℕ} (a b : List ℕ) → Stands (a ++ b) t k → Stands b t (k + length a)
 stands-right {t} {k} a b s =
     let h = length-append a b in
     record { within = omega (arith, s .within); here = λ j l. ap (λ (n : ℕ). getD t n 0) (assoc j) ∙ s .here (length a + j) (omega arith) ∙ getD-append-add a b j 0 }
@@ -78,10 +78,10 @@ stands-right {t} {k} a b s =
     assoc : (j : ℕ) → k + length a + j ≡ k + (length a + j)
     assoc j = omega arith
 
-stands-last : {t : List ℕ} {k v : ℕ} (i : ℕ) → Stands (v ∷ []) t k → k ≡ i → (getD t i 0 ≡ v) × (i < length t)
+pub stands-last : {t : List ℕ} {k v : ℕ} (i : ℕ) → Stands (v ∷ []) t k → k ≡ i → (getD t i 0 ≡ v) × (i < length t)
 stands-last {t} {k} i s e = let z : k + 0 ≡ i = omega arith in ((ap (λ (n : ℕ). getD t n 0) (sym z) ∙ s .here 0 (omega arith)), omega (arith, s .within))
 
-stands-at : {l t : List ℕ} {k : ℕ} (i : ℕ) → Stands l t k → k ≡ i → Stands l t i
+pub stands-at : {l t : List ℕ} {k : ℕ} (i : ℕ) → Stands l t k → k ≡ i → Stands l t i
 stands-at i s e = rw e at s
 
 pub kinds-length : (e : Re) → length (kinds e) ≡ nodes e

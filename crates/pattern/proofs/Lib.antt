@@ -1,0 +1,7 @@
+-- Laws that belong to no one function.
+pub mod Rows
+pub mod Classes
+pub mod Written
+pub mod Steps
+pub mod Marks
+pub mod Whole

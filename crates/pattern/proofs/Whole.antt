@@ -1,0 +1,153 @@
+-- The whole pattern: which answer the readings allow. Assumes nothing.
+use mathlib.Core.Path.{_≡_, refl, sym, _∙_, ap, ap₂}
+use mathlib.Core.List.{List, [], _∷_, _++_}
+use Prim.Native.Nat.{ℕ, zero, suc, _+_, _-_, _*_, _≤_, _<_}
+use native.Mathlib.Omega.{arith}
+use native.Mathlib.Nat.{zero-add}
+use lib.ListN.{length, getD, drop, replicate, length-replicate}
+use lib.Seq.{sets, sets-eq, length-sets, drop-append-seam}
+use Rattle.meaning.specs.Expression.{Re, size, marks}
+use Rattle.meaning.specs.Grammar.{Pattern}
+use Rattle.meaning.specs.ReadPattern.{nodes, kinds, args, words, padded, read-pattern, no-parts}
+use Rattle.meaning.specs.Promise.{Read, long-pattern, refused, accepted, not-a-pattern, nested, positions, over-marks, Accepted}
+use Rattle.grammar.specs.Place.{Stops, stops-mistake}
+use Rattle.grammar.specs.ByteTests.{bytes-of}
+use Rattle.grammar.specs.Contract.{List-done, List-bad, read-done, read-bad, read-short}
+use Rattle.laws.specs.Holds.{nodes-some, kinds-length, args-length}
+use Rattle.pattern.specs.Answers.{number-of, value-of, parts-of, Refusal}
+use Rattle.pattern.specs.Stores.{bare-args, Stores, stores, Became, Lies, Numberable, Numbers}
+use Rattle.pattern.specs.Parts.{Read-to}
+use Rattle.pattern.specs.declared.nodes.Cursor.{Cursor}
+use Rattle.pattern.specs.declared.Reading.{Reading}
+use Rattle.pattern.specs.declared.Reading.the-variants.{NoPattern, TooLong, TooDeep, ManyPositions, ManyMarks}
+use Rattle.pattern.specs.declared.ReadPattern.{ReadPattern}
+use Rattle.pattern.specs.declared.Answer.{Answer}
+use Rattle.pattern.proofs.Rows.{sets-stands, length-bare-args, length-words}
+
+-- ---- rows of zeros, written from the front on
+
+abbrev pub zeros : ℕ → List ℕ
+zeros n = replicate n 0
+
+abbrev pub blank : Stores
+blank = stores (zeros 1024) (zeros 1024) (zeros 256)
+
+front : (t l : List ℕ) → length l ≤ length t → sets t 0 l ≡ l ++ drop (length l) t
+front t l h = sets-eq l t 0 (omega arith) ∙ ap (λ (k : ℕ). l ++ drop k t) (zero-add (length l))
+
+length-zeros : (n : ℕ) → length (zeros n) ≡ n
+length-zeros n = length-replicate n 0
+
+drop-zeros : (k n : ℕ) → drop k (zeros n) ≡ zeros (n - k)
+drop-zeros zero n = let e : n - 0 ≡ n = omega arith in rw e
+drop-zeros (suc k) zero = let e : 0 - suc k ≡ 0 = omega arith in rw e
+drop-zeros (suc k) (suc n) = let e : suc n - suc k ≡ n - k = omega arith in rw e (drop-zeros k n)
+
+pub written-once : (n : ℕ) (l : List ℕ) → length l ≤ n → sets (zeros n) 0 l ≡ padded n l
+written-once n l h = front (zeros n) l (omega (arith, length-zeros n)) ∙ ap (λ (r : List ℕ). l ++ r) (drop-zeros (length l) n)
+
+pub written-twice : {t : List ℕ} (n : ℕ) (l r : List ℕ) → t ≡ sets (zeros n) 0 l → length l ≡ length r → length l ≤ n → sets t 0 r ≡ padded n r
+written-twice {t} n l r q e h =
+    let q′ : t ≡ padded n l = q ∙ written-once n l h in
+    let long : length t ≡ n = ap length q ∙ length-sets (zeros n) 0 l ∙ length-zeros n in
+    front t r (omega arith)
+    ∙ ap (λ (v : List ℕ). r ++ v) (ap₂ (λ (k : ℕ) (v : List ℕ). drop k v) (sym e) q′ ∙ drop-append-seam l (zeros (n - length l)) ∙ ap (λ (k : ℕ). zeros (n - k)) e)
+
+-- ---- what is read of the whole
+
+pub record Whole (s : List ℕ) (d : Cursor) (S : Stores) : Type 0 where
+  pub reading : Re
+  pub done : List-done s 0 (d .at) reading (d .deep)
+  pub inside : d .at ≤ length s
+  pub few : d .used < 2 * d .at
+  pub used : d .used ≡ nodes reading
+  pub places : d .positions ≡ size reading
+  pub marked : d .marks ≡ marks reading
+  pub kind : S .kind ≡ sets (zeros 1024) 0 (kinds reading)
+  pub arg : S .arg ≡ sets (zeros 1024) 0 (bare-args 0 0 reading)
+  pub word : S .word ≡ sets (zeros 256) 0 (words reading)
+
+pub whole : {s : List ℕ} {c d : Cursor} {S : Stores} → Became c 0 0 0 0 0 → Read-to 1 List-done s c d blank S → Whole s d S
+whole b h = record {
+  reading = h .reading;
+  done = rw (b .at) at (h .done);
+  inside = h .moved .inside;
+  few = omega (arith, b, h .moved);
+  used = omega (arith, b, h .wrote .used);
+  places = omega (arith, b, h .wrote .places);
+  marked = omega (arith, b, h .wrote .marked);
+  kind = rw (b .used) at (h .wrote .kind);
+  arg = rw (b .used, b .places) at (h .wrote .arg);
+  word = rw (b .places) at (h .wrote .word);
+}
+
+-- ---- refusals
+
+pub refusal : {s : List ℕ} {r : Reading} {a : Answer} → Refusal r a → Read s (number-of r) (value-of r) no-parts → Read s (number-of (a .reading)) (value-of (a .reading)) (parts-of (a .pattern))
+refusal h q = rw (h .reading, h .no-parts) q
+
+module _ {s : List ℕ} (short : length s ≤ 512) where
+  no-pattern : {p : ℕ} → ((i : ℕ) → i < length s → getD s i 0 < 256) → Stops s p → Read s 4 p no-parts
+  no-pattern b h = let m = stops-mistake (bytes-of s b) h in refused short (not-a-pattern (m .no-pattern) (m .longest))
+
+  pub stopped : {c : Cursor} {p : ℕ} → ((i : ℕ) → i < length s → getD s i 0 < 256) → Became c 0 0 0 0 0 → List-bad s (c .at) p → Read s 4 p no-parts
+  stopped b z h = no-pattern b (read-bad (rw (z .at) at h))
+
+  module _ {d : Cursor} {S : Stores} (w : Whole s d S) where
+    pub cut-short : ((i : ℕ) → i < length s → getD s i 0 < 256) → d .at < length s → getD s (d .at) 0 ≡ 41 → Read s 4 (d .at) no-parts
+    cut-short b l e = no-pattern b (read-short (w .done) l e)
+
+    module _ (end : length s ≤ d .at) where
+      denotes : Pattern s (w .reading) (d .deep)
+      denotes = read-done (w .done) (omega (arith, end, w .inside))
+
+      pub too-deep : 64 < d .deep → Read s 5 0 no-parts
+      too-deep l = refused short (nested denotes l)
+
+      module _ (shallow : d .deep ≤ 64) where
+        pub many-positions : 64 < d .positions → Read s 6 0 no-parts
+        many-positions l = refused short (positions denotes shallow (omega (arith, l, w .places)))
+
+        module _ (few-positions : d .positions ≤ 64) where
+          pub many-marks : 64 < d .marks → Read s 7 0 no-parts
+          many-marks l = refused short (over-marks denotes shallow (omega (arith, few-positions, w .places)) (omega (arith, l, w .marked)))
+
+          -- ---- the pattern is read
+
+          few-nodes : nodes (w .reading) ≤ 1024
+          few-nodes = omega (arith, w .used, w .few, w .inside, short)
+
+          lies : Lies (S .kind) (S .arg) 0 0 (d .used - 1) (w .reading)
+          lies = record {
+            kinds = rw (w .kind) (sets-stands (zeros 1024) 0 (kinds (w .reading)) (omega (arith, few-nodes, kinds-length (w .reading), length-zeros 1024)));
+            args = rw (w .arg) (sets-stands (zeros 1024) 0 (bare-args 0 0 (w .reading)) (omega (arith, few-nodes, length-bare-args 0 0 (w .reading), length-zeros 1024)));
+            last = omega (arith, w .used, nodes-some (w .reading));
+            inside = omega (arith, w .few, w .inside, short, nodes-some (w .reading), w .used);
+          }
+
+          pub numberable : d .marks ≤ 64 → Numberable (S .kind) (S .arg) (d .used - 1) 0
+          numberable l = record { e = w .reading; u = 0; p = 0; lies = lies; few = omega (arith, l, w .marked) }
+
+          pub read-whole : {r : ReadPattern} {n : ℕ} → (l : d .marks ≤ 64) → r .kind ≡ S .kind → Numbers (S .kind) (S .arg) (r .arg) (d .used - 1) 0 n → r .class ≡ S .word
+              → r .nodes ≡ d .used → r .positions ≡ d .positions → r .marks ≡ d .marks → Read s 0 0 (parts-of r)
+          unfolding read-pattern
+          read-whole {r} l k a c x y z = rw same (accepted all)
+            where
+              all : Accepted s (w .reading)
+              all = record { short = short; depth = d .deep; denotes = denotes; nesting = shallow; few-positions = omega (arith, few-positions, w .places); few-marks = omega (arith, l, w .marked) }
+
+              numbered : r .arg ≡ padded 1024 (args 0 0 0 (w .reading))
+              numbered =
+                  a (w .reading) 0 0 lies .arg
+                  ∙ written-twice 1024 (bare-args 0 0 (w .reading)) (args 0 0 0 (w .reading)) (w .arg) (length-bare-args 0 0 (w .reading) ∙ sym (args-length 0 0 0 (w .reading))) (omega (arith, few-nodes, length-bare-args 0 0 (w .reading)))
+
+              same : parts-of r ≡ read-pattern (w .reading)
+              same =
+                  rw (
+                    k ∙ w .kind ∙ written-once 1024 (kinds (w .reading)) (omega (arith, few-nodes, kinds-length (w .reading))),
+                    numbered,
+                    c ∙ w .word ∙ written-once 256 (words (w .reading)) (omega (arith, few-positions, w .places, length-words (w .reading))),
+                    x ∙ w .used,
+                    y ∙ w .places,
+                    z ∙ w .marked,
+                  )

@@ -1,0 +1,80 @@
+use borrow.Author.Needs.{needs}
+use native.Mathlib.Omega.{arith}
+use Rattle.grammar.specs.ClassContract.{range-single, range-span, range-bad-low, range-bad-high, range-bad-order}
+use Rattle.pattern.proofs.letters.class_item.Statement.{statement}
+use Rattle.pattern.proofs.letters.class_item.Tie as tie
+use Rattle.pattern.proofs.letters.class_item.Reads as reads
+use Rattle.pattern.proofs.letters.class_item.Lts as lts
+use Rattle.pattern.proofs.letters.class_byte.Reads as class-byte-reads
+
+class-byte-requires : tie.Need-class-byte-requires
+class-byte-requires c κs = search needs
+
+enum-known-k : tie.Need-enum-known-k
+enum-known-k c = search needs
+
+enum-known-c : tie.Need-enum-known-c
+enum-known-c c = search needs
+
+shared-slice-read-if2 : tie.Need-shared-slice-read-if2
+shared-slice-read-if2 c = search needs
+
+add-class-byte : tie.Need-add-class-byte
+add-class-byte c = search needs
+
+class-byte-requires-2 : tie.Need-class-byte-requires-2
+class-byte-requires-2 c κs = search needs
+
+enum-known-k-2 : tie.Need-enum-known-k-2
+enum-known-k-2 c = search needs
+
+enum-known-d : tie.Need-enum-known-d
+enum-known-d c = search needs
+
+sub-t23 : tie.Need-sub-t23
+sub-t23 c = let h = rw (c .before .before .d .given .1) at (c .before .before .before .before .class-byte2 .ensures) in omega (arith, h .1)
+
+returns : tie.Need-returns
+returns c = range-bad-low (rw (c .before .k .given .1) at (c .before .before .before .class-byte .ensures))
+
+returns-2 : tie.Need-returns-2
+returns-2 c = let a = rw (c .before .before .before .before .before .before .before .before .c .given .1) at (c .before .before .before .before .before .before .before .before .before .before .class-byte .ensures) in
+    range-bad-high (a .0) (c .before .before .before .before .before .before .if1 .taken) (c .before .before .before .before .if2 .taken) (rw (c .before .k2 .given .1) at (c .before .before .before .class-byte2 .ensures))
+
+returns-3 : tie.Need-returns-3
+returns-3 c = let a = rw (c .before .before .before .before .before .before .before .before .before .c .given .1) at (c .before .before .before .before .before .before .before .before .before .before .before .class-byte .ensures) in
+    let h = rw (c .before .before .d .given .1) at (c .before .before .before .before .class-byte2 .ensures) in
+    range-bad-order (a .0) (c .before .before .before .before .before .before .before .if1 .taken) (c .before .before .before .before .before .if2 .taken) (h .0) (c .if3 .taken) (omega (arith, h .1))
+
+returns-4 : tie.Need-returns-4
+returns-4 c = let a = rw (c .before .before .before .before .before .before .before .before .before .c .given .1) at (c .before .before .before .before .before .before .before .before .before .before .before .class-byte .ensures) in
+    let h = rw (c .before .before .d .given .1) at (c .before .before .before .before .class-byte2 .ensures) in
+    record { done = range-span (a .0) (c .before .before .before .before .before .before .before .if1 .taken) (c .before .before .before .before .before .if2 .taken) (h .0) (c .if3 .left); on = record { on = omega (arith, h .1, a .1); inside = h .1 .inside } }
+
+returns-5 : tie.Need-returns-5
+returns-5 c = let a = rw (c .before .before .before .before .c .given .1) at (c .before .before .before .before .before .before .class-byte .ensures) in
+    record { done = range-single (a .0) (λ l e. c .if2 .left e); on = a .1 }
+
+returns-6 : tie.Need-returns-6
+returns-6 c = let a = rw (c .before .before .c .given .1) at (c .before .before .before .before .class-byte .ensures) in
+    record { done = range-single (a .0) (λ l e. absurd (omega (arith, c .if1 .left, l))); on = a .1 }
+
+pub class-item-spec : {M : Type 1} → statement M
+class-item-spec =
+    tie.close
+    (tie.spec
+    class-byte-requires
+    enum-known-k
+    enum-known-c
+    shared-slice-read-if2
+    add-class-byte
+    class-byte-requires-2
+    enum-known-k-2
+    enum-known-d
+    sub-t23
+    returns
+    returns-2
+    returns-3
+    returns-4
+    returns-5
+    returns-6)

@@ -1,0 +1,22 @@
+use borrow.Author.Needs.{needs}
+use mathlib.Core.Path.{refl, _∙_, ap}
+use mathlib.Core.Bool.{Bool, _||_}
+use Rattle.meaning.specs.Grammar.{range}
+use Rattle.pattern.proofs.letters.ranged.Statement.{statement}
+use Rattle.pattern.proofs.letters.ranged.Tie as tie
+use Rattle.pattern.proofs.letters.ranged.Reads as reads
+use Rattle.pattern.proofs.letters.ranged.Lts as lts
+use Rattle.sets.proofs.class.Class.none.Reads as none-reads
+use Rattle.sets.proofs.class.Class.with_range.Reads as with-range-reads
+
+none-requires : tie.Need-none-requires
+none-requires c κs = search needs
+
+with-range-requires : tie.Need-with-range-requires
+with-range-requires c κs = search needs
+
+returns : tie.Need-returns
+returns c = record { past = refl; says = λ q l. c .with-range .ensures q ∙ ap (λ (b : Bool). b || range (c .before .before .args .c) (c .before .before .args .d) q) (c .before .none .ensures q) }
+
+pub ranged-spec : {M : Type 1} → statement M
+ranged-spec = tie.close (tie.spec none-requires with-range-requires returns)

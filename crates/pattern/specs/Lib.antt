@@ -1,0 +1,5 @@
+-- What the reader's contracts cite.
+pub mod Answers
+pub mod Stores
+pub mod Letters
+pub mod Parts
