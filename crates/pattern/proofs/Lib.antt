@@ -5,3 +5,5 @@ pub mod Written
 pub mod Steps
 pub mod Marks
 pub mod Whole
+pub mod Unique
+pub mod Held
