@@ -184,7 +184,7 @@ pub fn number(kind: &[u8; 1024], arg: &mut [u16; 1024], i: usize, m: u16) -> u16
         let n = number(kind, arg, left, m);
         return number(kind, arg, i - 1, n);
     }
-    let n = m + 1;
-    arg[i] = n;
-    number(kind, arg, i - 1, n)
+    let mark = m + 1;
+    arg[i] = mark;
+    number(kind, arg, i - 1, mark)
 }

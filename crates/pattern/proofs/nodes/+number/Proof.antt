@@ -62,9 +62,9 @@ number-returns-2 :
     (t : ℕ) → number-lts.Need-returns-2 (number-below t, number.Post) (number-at t) number.Post
 number-returns-2 t c = pair-numbers (c .before .before .before .before .before .before .if1 .left) (c .before .before .before .before .before .if2 .taken) (c .before .before .number .ensures) (c .number2 .ensures)
 
-number-add-n :
-    (t : ℕ) → number-lts.Need-add-n (number-below t, number.Post) (number-at t) number.Post
-number-add-n t c = let s = carries (c .before .before .before .pre .1) (c .if2 .left) in omega (arith, s .few)
+number-add-mark :
+    (t : ℕ) → number-lts.Need-add-mark (number-below t, number.Post) (number-at t) number.Post
+number-add-mark t c = let s = carries (c .before .before .before .pre .1) (c .if2 .left) in omega (arith, s .few)
 
 number-mul-arg :
     (t : ℕ) → number-lts.Need-mul-arg (number-below t, number.Post) (number-at t) number.Post
@@ -107,7 +107,7 @@ pub +number-spec : {M : Type 1} → statement M
     (number-sub-number t)
     (number-number-requires-2 t)
     (number-returns-2 t)
-    (number-add-n t)
+    (number-add-mark t)
     (number-mul-arg t)
     (number-element-write-arg t)
     (number-sub-number-2 t)
