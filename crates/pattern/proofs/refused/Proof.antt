@@ -1,9 +1,8 @@
+-- `refused` meets its contract. Assumes nothing.
 use mathlib.Core.Path.{refl}
 use Rattle.meaning.specs.ReadPattern.{no-parts}
 use Rattle.pattern.proofs.refused.Statement.{statement}
 use Rattle.pattern.proofs.refused.Tie as tie
-use Rattle.pattern.proofs.refused.Reads as reads
-use Rattle.pattern.proofs.refused.Lts as lts
 
 returns : tie.Need-returns
 unfolding no-parts

@@ -1,3 +1,4 @@
+-- `class` meets its contract. The loop's invariant: ranges were read from `from` up to `at`, and the class holds their bytes. Assumes nothing.
 use native.Mathlib.Omega.{arith}
 use Prim.Native.Nat.{_-_}
 use lib.ListN.{length}
@@ -7,12 +8,6 @@ use Rattle.pattern.specs.Letters.{Letter-to}
 use Rattle.pattern.proofs.Classes.{no-class, first-range, next-range}
 use Rattle.pattern.proofs.letters.class.Statement.{statement}
 use Rattle.pattern.proofs.letters.class.Tie as tie
-use Rattle.pattern.proofs.letters.class.Reads as reads
-use Rattle.pattern.proofs.letters.class.Lts as lts
-use Rattle.pattern.proofs.letters.class_item.Reads as class-item-reads
-use Rattle.pattern.proofs.letters.refused.Reads as refused-reads
-use Rattle.sets.proofs.class.Class.none.Reads as none-reads
-use Rattle.sets.proofs.class.Class.with_range.Reads as with-range-reads
 
 abbrev Inv-loop : tie.InvT-loop
 Inv-loop p from c d first class₀ at₀ class at = Letter-to Ranges-done p from at class

@@ -1,11 +1,10 @@
+-- `class_byte` meets its contract. Assumes nothing.
 use borrow.Author.Needs.{needs}
 use native.Mathlib.Omega.{arith}
 use Rattle.grammar.specs.ClassContract.{bare-at, quoted-at, char-end, char-stray, char-cut, at-open, at-end, at-dash}
 use Rattle.grammar.specs.ByteTests.{class-plain, class-stray}
 use Rattle.pattern.proofs.letters.class_byte.Statement.{statement}
 use Rattle.pattern.proofs.letters.class_byte.Tie as tie
-use Rattle.pattern.proofs.letters.class_byte.Reads as reads
-use Rattle.pattern.proofs.letters.class_byte.Lts as lts
 
 shared-slice-read-b : tie.Need-shared-slice-read-b
 shared-slice-read-b c = search needs

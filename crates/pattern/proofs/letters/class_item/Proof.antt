@@ -1,11 +1,9 @@
+-- `class_item` meets its contract. Assumes nothing.
 use borrow.Author.Needs.{needs}
 use native.Mathlib.Omega.{arith}
 use Rattle.grammar.specs.ClassContract.{range-single, range-span, range-bad-low, range-bad-high, range-bad-order}
 use Rattle.pattern.proofs.letters.class_item.Statement.{statement}
 use Rattle.pattern.proofs.letters.class_item.Tie as tie
-use Rattle.pattern.proofs.letters.class_item.Reads as reads
-use Rattle.pattern.proofs.letters.class_item.Lts as lts
-use Rattle.pattern.proofs.letters.class_byte.Reads as class-byte-reads
 
 class-byte-requires : tie.Need-class-byte-requires
 class-byte-requires c κs = search needs

@@ -1,15 +1,10 @@
+-- `letter` meets its contract: one law for each way through it. Assumes nothing.
 use borrow.Author.Needs.{needs}
 use native.Mathlib.Omega.{arith}
 use Rattle.grammar.specs.Contract.{atom-plain, atom-dot, atom-escaped, atom-cut, atom-stray, atom-end}
 use Rattle.pattern.proofs.Classes.{no-letter, range-letter, any-letter, class-letter}
 use Rattle.pattern.proofs.letters.letter.Statement.{statement}
 use Rattle.pattern.proofs.letters.letter.Tie as tie
-use Rattle.pattern.proofs.letters.letter.Reads as reads
-use Rattle.pattern.proofs.letters.letter.Lts as lts
-use Rattle.pattern.proofs.letters.class.Reads as class-reads
-use Rattle.pattern.proofs.letters.ranged.Reads as ranged-reads
-use Rattle.pattern.proofs.letters.refused.Reads as refused-reads
-use Rattle.pattern.proofs.letters.stray.Reads as stray-reads
 
 refused-requires : tie.Need-refused-requires
 refused-requires c κs = search needs

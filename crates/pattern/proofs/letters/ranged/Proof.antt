@@ -1,13 +1,10 @@
+-- `ranged` meets its contract. Assumes nothing.
 use borrow.Author.Needs.{needs}
 use mathlib.Core.Path.{refl, _∙_, ap}
 use mathlib.Core.Bool.{Bool, _||_}
 use Rattle.meaning.specs.Grammar.{range}
 use Rattle.pattern.proofs.letters.ranged.Statement.{statement}
 use Rattle.pattern.proofs.letters.ranged.Tie as tie
-use Rattle.pattern.proofs.letters.ranged.Reads as reads
-use Rattle.pattern.proofs.letters.ranged.Lts as lts
-use Rattle.sets.proofs.class.Class.none.Reads as none-reads
-use Rattle.sets.proofs.class.Class.with_range.Reads as with-range-reads
 
 none-requires : tie.Need-none-requires
 none-requires c κs = search needs

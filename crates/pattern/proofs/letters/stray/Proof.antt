@@ -1,10 +1,9 @@
+-- `stray` meets its contract. Assumes nothing.
 use Rattle.grammar.specs.Machine.{is-star, is-plus, is-opt}
 use Rattle.grammar.specs.Contract.{at-close, at-bar, at-bad, at-sign}
 use Rattle.grammar.specs.ByteTests as tests
 use Rattle.pattern.proofs.letters.stray.Statement.{statement}
 use Rattle.pattern.proofs.letters.stray.Tie as tie
-use Rattle.pattern.proofs.letters.stray.Reads as reads
-use Rattle.pattern.proofs.letters.stray.Lts as lts
 
 returns : tie.Need-returns
 returns c = tests.stray (c .if1 .taken) at-close

@@ -1,3 +1,4 @@
+-- The walk that numbers the marks. The measure is the node's number. Assumes nothing.
 use Prim.Native.Nat.{ℕ, _<_}
 use borrow.Fn.Kinds.{In}
 use borrow.Fn.PlainCycle.{Measures, is, falls, and}

@@ -1,11 +1,10 @@
+-- `keep` meets its contract. Assumes nothing.
 use borrow.Author.Needs.{needs}
 use native.Mathlib.Omega.{arith}
 use Rattle.sets.proofs.ClassLaws.{class-fits}
 use Rattle.pattern.proofs.Classes.{kept, unkept}
 use Rattle.pattern.proofs.nodes.keep.Statement.{statement}
 use Rattle.pattern.proofs.nodes.keep.Tie as tie
-use Rattle.pattern.proofs.nodes.keep.Reads as reads
-use Rattle.pattern.proofs.nodes.keep.Lts as lts
 
 mul-i : tie.Need-mul-i
 mul-i c = search needs

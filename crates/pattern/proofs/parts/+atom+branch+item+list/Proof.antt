@@ -7,13 +7,13 @@ use mathlib.Core.Path.{_≡_, refl, _∙_}
 use mathlib.Core.List.{List}
 use Prim.Native.Nat.{ℕ, _+_, _-_, _*_, _<_}
 use native.Mathlib.Omega.{arith}
-use lib.ListN.{length}
-use Rattle.grammar.specs.Contract.{Branch-done, branch-first-bad, branch-more-bad, list-first-bad}
+use lib.ListN.{length, getD}
+use Rattle.grammar.specs.Contract.{Atom-done, Item-done, Branch-done, List-done, branch-first-bad, branch-more-bad, list-first-bad}
 use Rattle.pattern.specs.declared.nodes.Cursor.{Cursor}
 use Rattle.pattern.specs.Stores.{Stores, stores, Room, Within}
-use Rattle.pattern.specs.Parts.{Byte-at, Read-to, Fronts-at}
+use Rattle.pattern.specs.Parts.{Byte-at, End, Read-to, Fronts-at}
 use Rattle.pattern.proofs.Written.{room-wrote, room-put}
-use Rattle.pattern.proofs.Steps.{within, unit-read, group-read, bare-read, signed-read, first-item, next-item, first-front, turned, turned-front, turned-list, lone-list, list-end, no-group, open-group, no-next, byte-there}
+use Rattle.pattern.proofs.Steps.{within, unit-read, group-read, bare-read, signed-read, first-item, next-item, first-front, Turned, turned, turned-front, turned-list, lone-list, list-end, no-group, open-group, no-next, byte-there}
 use Rattle.pattern.proofs.parts.atom.Reads as atom
 use Rattle.pattern.proofs.parts.atom.Kinds as atom-kinds
 use Rattle.pattern.proofs.parts.+atom+branch+item+list.Lts-atom as atom-lts
@@ -77,44 +77,50 @@ list-below t = and 4 list-kinds.ps (falls 4 list-kinds.ps _<_ μ-list t) list.Pr
 abbrev atom-calls : ℕ → atom-lts.Claims
 atom-calls t = (stands-reads.Asked, stands-reads.Learnt, empty-reads.Asked, empty-reads.Learnt, past-reads.Asked, past-reads.Learnt, list-below t, list.Post, shut-reads.Asked, shut-reads.Learnt, single-reads.Asked, single-reads.Learnt)
 
+atom-opens : (t : ℕ) (c : atom-lts.Then1 (atom-calls t) (atom-at t) atom.Post) → Byte-at (c .before .before .before .args .p .now) (c .before .before .before .args .c .at) 40
+atom-opens t c = rw (c .if1 .taken) at (c .before .stands .ensures)
+
+atom-listed : (t : ℕ) (c : atom-lts.After-known-told2 (atom-calls t) (atom-at t) atom.Post) → Read-to 1 List-done (c .before .before .before .before .before .before .before .before .before .before .before .before .before .args .p .now) (c .before .before .before .before .past .result) (c .before .d .given .0 .0) (stores (c .before .before .before .before .before .before .before .before .before .before .before .before .before .args .kind .now) (c .before .before .before .before .before .before .before .before .before .before .before .before .before .args .arg .now) (c .before .before .before .before .before .before .before .before .before .before .before .before .before .args .class .now)) (stores (c .before .before .before .list .last .1 .0) (c .before .before .before .list .last .1 .1 .0) (c .before .before .before .list .last .1 .1 .1 .0)) × (c .before .d .given .0 .0 .at < length (c .before .before .before .before .before .before .before .before .before .before .before .before .before .args .p .now) → getD (c .before .before .before .before .before .before .before .before .before .before .before .before .before .args .p .now) (c .before .d .given .0 .0 .at) 0 ≡ 41)
+atom-listed t c = rw (c .before .d .given .1) at (c .before .before .before .list .ensures)
+
 atom-stands-requires : (t : ℕ) → atom-lts.Need-stands-requires (atom-calls t) (atom-at t) atom.Post
 atom-stands-requires t c κs = search needs
 
 atom-add-stands : (t : ℕ) → atom-lts.Need-add-stands (atom-calls t) (atom-at t) atom.Post
-atom-add-stands t c = let o = rw (c .if1 .taken) at (c .before .stands .ensures) in omega (arith, o, c .before .before .before .pre .1 .1)
+atom-add-stands t c = let o = atom-opens t c in omega (arith, o, c .before .before .before .pre .1 .1)
 
 atom-stands-requires-2 : (t : ℕ) → atom-lts.Need-stands-requires-2 (atom-calls t) (atom-at t) atom.Post
 atom-stands-requires-2 t c κs = search needs
 
 atom-empty-requires : (t : ℕ) → atom-lts.Need-empty-requires (atom-calls t) (atom-at t) atom.Post
-atom-empty-requires t c κs = let o = rw (c .before .before .before .before .if1 .taken) at (c .before .before .before .before .before .stands .ensures) in omega (arith, o, c .before .before .before .before .before .before .before .pre .1)
+atom-empty-requires t c κs = let o = atom-opens t (c .before .before .before .before) in omega (arith, o, c .before .before .before .before .before .before .before .pre .1)
 
 atom-returns : (t : ℕ) → atom-lts.Need-returns (atom-calls t) (atom-at t) atom.Post
-atom-returns t c = unit-read (rw (c .before .before .before .before .before .if1 .taken) at (c .before .before .before .before .before .before .stands .ensures)) (rw (c .before .before .before .if2 .taken) at (c .before .before .before .before .stands2 .ensures)) (c .empty .ensures .0) (c .empty .ensures .1)
+atom-returns t c = unit-read (atom-opens t (c .before .before .before .before .before)) (rw (c .before .before .before .if2 .taken) at (c .before .before .before .before .stands2 .ensures)) (c .empty .ensures .0) (c .empty .ensures .1)
 
 atom-past-requires : (t : ℕ) → atom-lts.Need-past-requires (atom-calls t) (atom-at t) atom.Post
 atom-past-requires t c κs = omega (arith, c .before .before .before .before .before .before .before .before .pre .1 .1)
 
 atom-list-requires : (t : ℕ) → atom-lts.Need-list-requires (atom-calls t) (atom-at t) atom.Post
-atom-list-requires t c κs = let o = rw (c .before .before .before .before .before .before .if1 .taken) at (c .before .before .before .before .before .before .before .stands .ensures) in (omega (arith, c .past .ensures, o, c .before .before .before .before .before .before .before .before .before .pre .0), (c .before .before .before .before .before .before .before .before .before .pre .1 .0, omega (arith, c .past .ensures, c .before .before .before .before .before .before .before .before .before .pre .1 .1, o)))
+atom-list-requires t c κs = let o = atom-opens t (c .before .before .before .before .before .before) in (omega (arith, c .past .ensures, o, c .before .before .before .before .before .before .before .before .before .pre .0), (c .before .before .before .before .before .before .before .before .before .pre .1 .0, omega (arith, c .past .ensures, c .before .before .before .before .before .before .before .before .before .pre .1 .1, o)))
 
 atom-enum-known-k : (t : ℕ) → atom-lts.Need-enum-known-k (atom-calls t) (atom-at t) atom.Post
 atom-enum-known-k t c = search needs
 
 atom-returns-2 : (t : ℕ) → atom-lts.Need-returns-2 (atom-calls t) (atom-at t) atom.Post
-atom-returns-2 t c = no-group (rw (c .before .before .before .before .before .before .before .before .before .before .if1 .taken) at (c .before .before .before .before .before .before .before .before .before .before .before .stands .ensures)) (rw (c .before .before .before .before .before .before .before .before .if2 .left) at (c .before .before .before .before .before .before .before .before .before .stands2 .ensures)) (c .before .before .before .before .past .ensures) (rw (c .before .k .given .1) at (c .before .before .before .list .ensures))
+atom-returns-2 t c = no-group (atom-opens t (c .before .before .before .before .before .before .before .before .before .before)) (rw (c .before .before .before .before .before .before .before .before .if2 .left) at (c .before .before .before .before .before .before .before .before .before .stands2 .ensures)) (c .before .before .before .before .past .ensures) (rw (c .before .k .given .1) at (c .before .before .before .list .ensures))
 
 atom-enum-known-d : (t : ℕ) → atom-lts.Need-enum-known-d (atom-calls t) (atom-at t) atom.Post
 atom-enum-known-d t c = search needs
 
 atom-shut-requires : (t : ℕ) → atom-lts.Need-shut-requires (atom-calls t) (atom-at t) atom.Post
-atom-shut-requires t c κs = let h = rw (c .before .before .d .given .1) at (c .before .before .before .before .list .ensures) in omega (arith, h .0 .moved, c .before .before .before .before .before .before .before .before .before .before .before .before .before .before .pre .1 .1)
+atom-shut-requires t c κs = let h = atom-listed t (c .before) in omega (arith, h .0 .moved, c .before .before .before .before .before .before .before .before .before .before .before .before .before .before .pre .1 .1)
 
 atom-returns-3 : (t : ℕ) → atom-lts.Need-returns-3 (atom-calls t) (atom-at t) atom.Post
-atom-returns-3 t c = let h = rw (c .before .before .before .d .given .1) at (c .before .before .before .before .before .list .ensures) in group-read (rw (c .before .before .before .before .before .before .before .before .before .before .before .before .if1 .taken) at (c .before .before .before .before .before .before .before .before .before .before .before .before .before .stands .ensures)) (c .before .before .before .before .before .before .past .ensures) (h .0) (record { inside = c .before .if3 .taken; is = h .1 (c .before .if3 .taken) }) (c .shut .ensures)
+atom-returns-3 t c = let h = atom-listed t (c .before .before) in group-read (atom-opens t (c .before .before .before .before .before .before .before .before .before .before .before .before)) (c .before .before .before .before .before .before .past .ensures) (h .0) (record { inside = c .before .if3 .taken; is = h .1 (c .before .if3 .taken) }) (c .shut .ensures)
 
 atom-returns-4 : (t : ℕ) → atom-lts.Need-returns-4 (atom-calls t) (atom-at t) atom.Post
-atom-returns-4 t c = let h = rw (c .before .before .d .given .1) at (c .before .before .before .before .list .ensures) in open-group (rw (c .before .before .before .before .before .before .before .before .before .before .before .if1 .taken) at (c .before .before .before .before .before .before .before .before .before .before .before .before .stands .ensures)) (c .before .before .before .before .before .past .ensures) (h .0) (c .if3 .left)
+atom-returns-4 t c = open-group (atom-opens t (c .before .before .before .before .before .before .before .before .before .before .before)) (c .before .before .before .before .before .past .ensures) (atom-listed t (c .before) .0) (c .if3 .left)
 
 atom-single-requires : (t : ℕ) → atom-lts.Need-single-requires (atom-calls t) (atom-at t) atom.Post
 atom-single-requires t c κs = (c .before .before .before .before .before .before .pre .1 .0, c .before .before .before .before .before .before .pre .1 .1, rw (c .before .before .before .if1 .left) at (c .before .before .before .before .stands .ensures))
@@ -134,8 +140,29 @@ branch-Inv-loop p kind₀ arg₀ class₀ d₀ kind arg class d =
 abbrev branch-μ-loop : branch-lts.MeasureT-loop
 branch-μ-loop p kind₀ arg₀ class₀ d₀ kind arg class d = length p - d .at
 
+branch-first : (t : ℕ) (c : branch-lts.After-known-told2 (branch-calls t) (branch-at t) branch.Post branch-Inv-loop branch-μ-loop) → Read-to 1 Branch-done (c .before .before .before .before .before .before .before .before .args .p .now) (c .before .before .before .before .before .before .before .before .args .c) (c .before .first .given .0 .0) (stores (c .before .before .before .before .before .before .before .before .args .kind .now) (c .before .before .before .before .before .before .before .before .args .arg .now) (c .before .before .before .before .before .before .before .before .args .class .now)) (stores (c .before .before .before .item .last .1 .0) (c .before .before .before .item .last .1 .1 .0) (c .before .before .before .item .last .1 .1 .1 .0))
+branch-first t c = first-item (rw (c .before .first .given .1) at (c .before .before .before .item .ensures))
+
+branch-room : (t : ℕ) (c : branch-lts.After-known-told2 (branch-calls t) (branch-at t) branch.Post branch-Inv-loop branch-μ-loop) → Room (stores (c .before .before .before .item .last .1 .0) (c .before .before .before .item .last .1 .1 .0) (c .before .before .before .item .last .1 .1 .1 .0))
+branch-room t c = room-wrote (branch-first t c .wrote) (c .before .before .before .before .before .before .before .before .pre .1 .0)
+
 branch-so-far : (t : ℕ) (c : branch-lts.At-loop (branch-calls t) (branch-at t) branch.Post branch-Inv-loop branch-μ-loop) → Read-to 1 Branch-done (c .before .before .before .before .before .before .before .before .before .args .p .now) (c .before .before .before .before .before .before .before .before .before .args .c) (c .loop .d) (stores (c .before .before .before .before .before .before .before .before .before .args .kind .now) (c .before .before .before .before .before .before .before .before .before .args .arg .now) (c .before .before .before .before .before .before .before .before .before .args .class .now)) (stores (c .loop .kind) (c .loop .arg) (c .loop .class))
-branch-so-far t c = c .loop .inv .3 (c .before .before .before .before .before .before .before .before .before .args .c) (stores (c .before .before .before .before .before .before .before .before .before .args .kind .now) (c .before .before .before .before .before .before .before .before .before .args .arg .now) (c .before .before .before .before .before .before .before .before .before .args .class .now)) (first-item (rw (c .before .before .first .given .1) at (c .before .before .before .before .item .ensures)))
+branch-so-far t c = c .loop .inv .3 (c .before .before .before .before .before .before .before .before .before .args .c) (stores (c .before .before .before .before .before .before .before .before .before .args .kind .now) (c .before .before .before .before .before .before .before .before .before .args .arg .now) (c .before .before .before .before .before .before .before .before .before .args .class .now)) (branch-first t (c .before))
+
+branch-more : (t : ℕ) (c : branch-lts.After-known-told4 (branch-calls t) (branch-at t) branch.Post branch-Inv-loop branch-μ-loop) → Read-to 1 Item-done (c .before .before .before .before .before .before .before .before .before .before .before .before .before .before .before .before .before .before .args .p .now) (c .before .before .before .before .before .before .before .before .before .loop .d) (c .before .e .given .0 .0) (stores (c .before .before .before .before .before .before .before .before .before .loop .kind) (c .before .before .before .before .before .before .before .before .before .loop .arg) (c .before .before .before .before .before .before .before .before .before .loop .class)) (stores (c .before .before .before .item2 .last .1 .0) (c .before .before .before .item2 .last .1 .1 .0) (c .before .before .before .item2 .last .1 .1 .1 .0))
+branch-more t c = rw (c .before .e .given .1) at (c .before .before .before .item2 .ensures)
+
+branch-more-room : (t : ℕ) (c : branch-lts.After-known-told4 (branch-calls t) (branch-at t) branch.Post branch-Inv-loop branch-μ-loop) → Room (stores (c .before .before .before .item2 .last .1 .0) (c .before .before .before .item2 .last .1 .1 .0) (c .before .before .before .item2 .last .1 .1 .1 .0))
+branch-more-room t c = room-wrote (branch-more t c .wrote) (c .before .before .before .before .before .before .before .before .before .loop .inv .2)
+
+branch-next : (t : ℕ) (c : branch-lts.After-joined (branch-calls t) (branch-at t) branch.Post branch-Inv-loop branch-μ-loop) → (c′ : Cursor) (S : Stores) → Read-to 1 Branch-done (c .before .before .before .before .before .before .before .before .before .before .before .before .before .before .before .before .before .before .before .before .before .args .p .now) c′ (c .before .before .before .before .before .before .before .before .before .before .before .before .loop .d) S (stores (c .before .before .before .before .before .before .before .before .before .before .before .before .loop .kind) (c .before .before .before .before .before .before .before .before .before .before .before .before .loop .arg) (c .before .before .before .before .before .before .before .before .before .before .before .before .loop .class)) → Read-to 1 Branch-done (c .before .before .before .before .before .before .before .before .before .before .before .before .before .before .before .before .before .before .before .before .before .args .p .now) c′ (c .joined .result) S (stores (c .joined .last .0) (c .joined .last .1 .0) (c .before .before .before .before .before .before .item2 .last .1 .1 .1 .0))
+branch-next t c = λ c′ S h. next-item h (branch-more t (c .before .before .before)) (c .joined .ensures .0) (c .joined .ensures .1)
+
+branch-turned : (t : ℕ) (c : branch-lts.After-joined (branch-calls t) (branch-at t) branch.Post branch-Inv-loop branch-μ-loop) → Read-to 1 Branch-done (c .before .before .before .before .before .before .before .before .before .before .before .before .before .before .before .before .before .before .before .before .before .args .p .now) (c .before .before .before .before .before .before .before .before .before .before .before .before .before .before .before .before .before .before .before .before .before .args .c) (c .joined .result) (stores (c .before .before .before .before .before .before .before .before .before .before .before .before .before .before .before .before .before .before .before .before .before .args .kind .now) (c .before .before .before .before .before .before .before .before .before .before .before .before .before .before .before .before .before .before .before .before .before .args .arg .now) (c .before .before .before .before .before .before .before .before .before .before .before .before .before .before .before .before .before .before .before .before .before .args .class .now)) (stores (c .joined .last .0) (c .joined .last .1 .0) (c .before .before .before .before .before .before .item2 .last .1 .1 .1 .0))
+branch-turned t c = branch-next t c (c .before .before .before .before .before .before .before .before .before .before .before .before .before .before .before .before .before .before .before .before .before .args .c) (stores (c .before .before .before .before .before .before .before .before .before .before .before .before .before .before .before .before .before .before .before .before .before .args .kind .now) (c .before .before .before .before .before .before .before .before .before .before .before .before .before .before .before .before .before .before .before .before .before .args .arg .now) (c .before .before .before .before .before .before .before .before .before .before .before .before .before .before .before .before .before .before .before .before .before .args .class .now)) (branch-so-far t (c .before .before .before .before .before .before .before .before .before .before .before .before))
+
+branch-turned-room : (t : ℕ) (c : branch-lts.After-joined (branch-calls t) (branch-at t) branch.Post branch-Inv-loop branch-μ-loop) → Room (stores (c .joined .last .0) (c .joined .last .1 .0) (c .before .before .before .before .before .before .item2 .last .1 .1 .1 .0))
+branch-turned-room t c = room-wrote (branch-turned t c .wrote) (c .before .before .before .before .before .before .before .before .before .before .before .before .before .before .before .before .before .before .before .before .before .pre .1 .0)
 
 branch-item-requires : (t : ℕ) → branch-lts.Need-item-requires (branch-calls t) (branch-at t) branch.Post branch-Inv-loop branch-μ-loop
 branch-item-requires t c κs = (omega (arith, c .before .before .before .before .pre .0), c .before .before .before .before .pre .1)
@@ -147,7 +174,7 @@ branch-enum-known-first : (t : ℕ) → branch-lts.Need-enum-known-first (branch
 branch-enum-known-first t c = search needs
 
 branch-loop-holds : (t : ℕ) → branch-lts.Need-loop-holds (branch-calls t) (branch-at t) branch.Post branch-Inv-loop branch-μ-loop
-branch-loop-holds t c = let h = rw (c .before .first .given .1) at (c .before .before .before .item .ensures) in (within (c .before .before .before .before .before .before .before .before .pre .1 .1) (h .moved), omega (arith, h .moved), room-wrote (h .wrote) (c .before .before .before .before .before .before .before .before .pre .1 .0), λ c′ S x. x)
+branch-loop-holds t c = let h = branch-first t c in (within (c .before .before .before .before .before .before .before .before .pre .1 .1) (h .moved), omega (arith, h .moved), branch-room t c, λ c′ S x. x)
 
 branch-goes-on-requires : (t : ℕ) → branch-lts.Need-goes-on-requires (branch-calls t) (branch-at t) branch.Post branch-Inv-loop branch-μ-loop
 branch-goes-on-requires t c κs = search needs
@@ -165,13 +192,13 @@ branch-enum-known-e : (t : ℕ) → branch-lts.Need-enum-known-e (branch-calls t
 branch-enum-known-e t c = search needs
 
 branch-joined-requires : (t : ℕ) → branch-lts.Need-joined-requires (branch-calls t) (branch-at t) branch.Post branch-Inv-loop branch-μ-loop
-branch-joined-requires t c κs = let x = rw (c .before .before .before .e .given .1) at (c .before .before .before .before .before .item2 .ensures) in let r = room-wrote (x .wrote) (c .before .before .before .before .before .before .before .before .before .before .before .loop .inv .2) in omega (arith, r, x .moved, c .before .before .before .before .before .before .before .before .before .before .before .loop .inv .0, c .before .before .before .before .before .before .before .before .before .before .before .loop .inv .1)
+branch-joined-requires t c κs = let x = branch-more t (c .before .before) in let r = branch-more-room t (c .before .before) in omega (arith, r, x .moved, c .before .before .before .before .before .before .before .before .before .before .before .loop .inv .0, c .before .before .before .before .before .before .before .before .before .before .before .loop .inv .1)
 
 branch-loop-less : (t : ℕ) → branch-lts.Need-loop-less (branch-calls t) (branch-at t) branch.Post branch-Inv-loop branch-μ-loop
-branch-loop-less t c = let x = rw (c .before .before .before .before .e .given .1) at (c .before .before .before .before .before .before .item2 .ensures) in omega (arith, x .moved, c .joined .ensures .0)
+branch-loop-less t c = let x = branch-more t (c .before .before .before) in omega (arith, x .moved, c .joined .ensures .0)
 
 branch-loop-again : (t : ℕ) → branch-lts.Need-loop-again (branch-calls t) (branch-at t) branch.Post branch-Inv-loop branch-μ-loop
-branch-loop-again t c = let x = rw (c .before .before .before .before .e .given .1) at (c .before .before .before .before .before .before .item2 .ensures) in let n = next-item (branch-so-far t (c .before .before .before .before .before .before .before .before .before .before .before .before)) x (c .joined .ensures .0) (c .joined .ensures .1) in (within (c .before .before .before .before .before .before .before .before .before .before .before .before .before .before .before .before .before .before .before .before .before .pre .1 .1) (n .moved), omega (arith, n .moved), room-wrote (n .wrote) (c .before .before .before .before .before .before .before .before .before .before .before .before .before .before .before .before .before .before .before .before .before .pre .1 .0), λ c′ S y. next-item (c .before .before .before .before .before .before .before .before .before .before .before .before .loop .inv .3 c′ S y) x (c .joined .ensures .0) (c .joined .ensures .1))
+branch-loop-again t c = let n = branch-turned t c in (within (c .before .before .before .before .before .before .before .before .before .before .before .before .before .before .before .before .before .before .before .before .before .pre .1 .1) (n .moved), omega (arith, n .moved), branch-turned-room t c, λ c′ S y. branch-next t c c′ S (c .before .before .before .before .before .before .before .before .before .before .before .before .loop .inv .3 c′ S y))
 
 branch-returns-2 : (t : ℕ) → branch-lts.Need-returns-2 (branch-calls t) (branch-at t) branch.Post branch-Inv-loop branch-μ-loop
 branch-returns-2 t c = branch-first-bad (rw (c .before .k .given .1) at (c .before .before .before .item .ensures))
@@ -181,6 +208,12 @@ branch-returns-3 t c = (branch-so-far t (c .before .before), rw (c .if1 .left) a
 
 abbrev item-calls : ℕ → item-lts.Claims
 item-calls t = (atom-below t, atom.Post, sign-reads.Asked, sign-reads.Learnt, marked-reads.Asked, marked-reads.Learnt)
+
+item-read : (t : ℕ) (c : item-lts.After-known-told2 (item-calls t) (item-at t) item.Post) → Read-to 1 Atom-done (c .before .before .before .before .before .before .before .before .args .p .now) (c .before .before .before .before .before .before .before .before .args .c) (c .before .d .given .0 .0) (stores (c .before .before .before .before .before .before .before .before .args .kind .now) (c .before .before .before .before .before .before .before .before .args .arg .now) (c .before .before .before .before .before .before .before .before .args .class .now)) (stores (c .before .before .before .atom .last .1 .0) (c .before .before .before .atom .last .1 .1 .0) (c .before .before .before .atom .last .1 .1 .1 .0))
+item-read t c = rw (c .before .d .given .1) at (c .before .before .before .atom .ensures)
+
+item-room : (t : ℕ) (c : item-lts.After-known-told2 (item-calls t) (item-at t) item.Post) → Room (stores (c .before .before .before .atom .last .1 .0) (c .before .before .before .atom .last .1 .1 .0) (c .before .before .before .atom .last .1 .1 .1 .0))
+item-room t c = room-wrote (item-read t c .wrote) (c .before .before .before .before .before .before .before .before .pre .1 .0)
 
 item-atom-requires : (t : ℕ) → item-lts.Need-atom-requires (item-calls t) (item-at t) item.Post
 item-atom-requires t c κs = (omega (arith, c .before .before .before .before .pre .0), c .before .before .before .before .pre .1)
@@ -195,19 +228,19 @@ item-sign-requires : (t : ℕ) → item-lts.Need-sign-requires (item-calls t) (i
 item-sign-requires t c κs = search needs
 
 item-returns : (t : ℕ) → item-lts.Need-returns (item-calls t) (item-at t) item.Post
-item-returns t c = bare-read (rw (c .before .before .before .d .given .1) at (c .before .before .before .before .before .atom .ensures)) (c .before .sign .ensures) (c .if1 .taken)
+item-returns t c = bare-read (item-read t (c .before .before)) (c .before .sign .ensures) (c .if1 .taken)
 
 item-add-marked : (t : ℕ) → item-lts.Need-add-marked (item-calls t) (item-at t) item.Post
-item-add-marked t c = let h = rw (c .before .before .before .before .before .d .given .1) at (c .before .before .before .before .before .before .before .atom .ensures) in omega (arith, h .moved, c .before .before .before .before .before .before .before .before .before .before .before .before .pre .1 .1)
+item-add-marked t c = let h = item-read t (c .before .before .before .before) in omega (arith, h .moved, c .before .before .before .before .before .before .before .before .before .before .before .before .pre .1 .1)
 
 item-marked-requires : (t : ℕ) → item-lts.Need-marked-requires (item-calls t) (item-at t) item.Post
-item-marked-requires t c κs = let h = rw (c .before .before .before .before .before .d .given .1) at (c .before .before .before .before .before .before .before .atom .ensures) in let r = room-wrote (h .wrote) (c .before .before .before .before .before .before .before .before .before .before .before .before .pre .1 .0) in omega (arith, r, h .moved, c .before .before .before .before .before .before .before .before .before .before .before .before .pre .1 .1)
+item-marked-requires t c κs = let h = item-read t (c .before .before .before .before) in let r = item-room t (c .before .before .before .before) in omega (arith, r, h .moved, c .before .before .before .before .before .before .before .before .before .before .before .before .pre .1 .1)
 
 item-returns-2 : (t : ℕ) → item-lts.Need-returns-2 (item-calls t) (item-at t) item.Post
 item-returns-2 t c = rw (c .before .k .given .1) at (c .before .before .before .atom .ensures)
 
 item-returns-3 : (t : ℕ) → item-lts.Need-returns-3 (item-calls t) (item-at t) item.Post
-item-returns-3 t c = signed-read (rw (c .before .before .before .before .before .before .d .given .1) at (c .before .before .before .before .before .before .before .before .atom .ensures)) (c .before .before .before .before .sign .ensures) (c .before .before .before .if1 .left) (c .marked .ensures .0) (c .marked .ensures .1)
+item-returns-3 t c = signed-read (item-read t (c .before .before .before .before .before)) (c .before .before .before .before .sign .ensures) (c .before .before .before .if1 .left) (c .marked .ensures .0) (c .marked .ensures .1)
 
 abbrev list-calls : ℕ → list-lts.Claims
 list-calls t = (branch-below t, branch.Post, stands-reads.Asked, stands-reads.Learnt, marked-reads.Asked, marked-reads.Learnt, past-reads.Asked, past-reads.Learnt, joined-reads.Asked, joined-reads.Learnt)
@@ -220,11 +253,38 @@ list-Inv-loop p kind₀ arg₀ class₀ d₀ kind arg class d =
 abbrev list-μ-loop : list-lts.MeasureT-loop
 list-μ-loop p kind₀ arg₀ class₀ d₀ kind arg class d = length p - d .at
 
+list-lone : (t : ℕ) (c : list-lts.After-known-told2 (list-calls t) (list-at t) list.Post list-Inv-loop list-μ-loop) → Read-to 1 Branch-done (c .before .before .before .before .before .before .before .before .args .p .now) (c .before .before .before .before .before .before .before .before .args .c) (c .before .first .given .0 .0) (stores (c .before .before .before .before .before .before .before .before .args .kind .now) (c .before .before .before .before .before .before .before .before .args .arg .now) (c .before .before .before .before .before .before .before .before .args .class .now)) (stores (c .before .before .before .branch .last .1 .0) (c .before .before .before .branch .last .1 .1 .0) (c .before .before .before .branch .last .1 .1 .1 .0)) × End (c .before .before .before .before .before .before .before .before .args .p .now) (c .before .first .given .0 .0 .at)
+list-lone t c = rw (c .before .first .given .1) at (c .before .before .before .branch .ensures)
+
+list-room : (t : ℕ) (c : list-lts.After-known-told2 (list-calls t) (list-at t) list.Post list-Inv-loop list-μ-loop) → Room (stores (c .before .before .before .branch .last .1 .0) (c .before .before .before .branch .last .1 .1 .0) (c .before .before .before .branch .last .1 .1 .1 .0))
+list-room t c = room-wrote (list-lone t c .0 .wrote) (c .before .before .before .before .before .before .before .before .pre .1 .0)
+
 list-first : (t : ℕ) (c : list-lts.After-marked (list-calls t) (list-at t) list.Post list-Inv-loop list-μ-loop) → Read-to 0 Fronts-at (c .before .before .before .before .before .before .before .before .before .before .before .before .before .args .p .now) (c .before .before .before .before .before .before .before .before .before .before .before .before .before .args .c) (c .marked .result) (stores (c .before .before .before .before .before .before .before .before .before .before .before .before .before .args .kind .now) (c .before .before .before .before .before .before .before .before .before .before .before .before .before .args .arg .now) (c .before .before .before .before .before .before .before .before .before .before .before .before .before .args .class .now)) (stores (c .marked .last .0) (c .marked .last .1 .0) (c .before .before .before .before .before .before .before .before .branch .last .1 .1 .1 .0))
-list-first t c = let h = rw (c .before .before .before .before .before .before .first .given .1) at (c .before .before .before .before .before .before .before .before .branch .ensures) in first-front (h .0) (rw (c .before .before .before .if1 .taken) at (c .before .before .before .before .stands .ensures)) (c .marked .ensures .0) (c .marked .ensures .1)
+list-first t c = first-front (list-lone t (c .before .before .before .before .before) .0) (rw (c .before .before .before .if1 .taken) at (c .before .before .before .before .stands .ensures)) (c .marked .ensures .0) (c .marked .ensures .1)
+
+list-first-room : (t : ℕ) (c : list-lts.After-marked (list-calls t) (list-at t) list.Post list-Inv-loop list-μ-loop) → Room (stores (c .marked .last .0) (c .marked .last .1 .0) (c .before .before .before .before .before .before .before .before .branch .last .1 .1 .1 .0))
+list-first-room t c = room-wrote (list-first t c .wrote) (c .before .before .before .before .before .before .before .before .before .before .before .before .before .pre .1 .0)
 
 list-so-far : (t : ℕ) (c : list-lts.At-loop (list-calls t) (list-at t) list.Post list-Inv-loop list-μ-loop) → Read-to 0 Fronts-at (c .before .before .before .before .before .before .before .before .before .before .before .before .before .before .args .p .now) (c .before .before .before .before .before .before .before .before .before .before .before .before .before .before .args .c) (c .loop .d) (stores (c .before .before .before .before .before .before .before .before .before .before .before .before .before .before .args .kind .now) (c .before .before .before .before .before .before .before .before .before .before .before .before .before .before .args .arg .now) (c .before .before .before .before .before .before .before .before .before .before .before .before .before .before .args .class .now)) (stores (c .loop .kind) (c .loop .arg) (c .loop .class))
 list-so-far t c = c .loop .inv .4 (c .before .before .before .before .before .before .before .before .before .before .before .before .before .before .args .c) (stores (c .before .before .before .before .before .before .before .before .before .before .before .before .before .before .args .kind .now) (c .before .before .before .before .before .before .before .before .before .before .before .before .before .before .args .arg .now) (c .before .before .before .before .before .before .before .before .before .before .before .before .before .before .args .class .now)) (list-first t (c .before))
+
+list-more : (t : ℕ) (c : list-lts.After-known-told4 (list-calls t) (list-at t) list.Post list-Inv-loop list-μ-loop) → Read-to 1 Branch-done (c .before .before .before .before .before .before .before .before .before .before .before .before .before .before .before .before .before .before .before .before .before .before .args .p .now) (c .before .before .before .before .past .result) (c .before .e .given .0 .0) (stores (c .before .before .before .before .before .before .before .before .loop .kind) (c .before .before .before .before .before .before .before .before .loop .arg) (c .before .before .before .before .before .before .before .before .loop .class)) (stores (c .before .before .before .branch2 .last .1 .0) (c .before .before .before .branch2 .last .1 .1 .0) (c .before .before .before .branch2 .last .1 .1 .1 .0)) × End (c .before .before .before .before .before .before .before .before .before .before .before .before .before .before .before .before .before .before .before .before .before .before .args .p .now) (c .before .e .given .0 .0 .at)
+list-more t c = rw (c .before .e .given .1) at (c .before .before .before .branch2 .ensures)
+
+list-more-room : (t : ℕ) (c : list-lts.After-known-told4 (list-calls t) (list-at t) list.Post list-Inv-loop list-μ-loop) → Room (stores (c .before .before .before .branch2 .last .1 .0) (c .before .before .before .branch2 .last .1 .1 .0) (c .before .before .before .branch2 .last .1 .1 .1 .0))
+list-more-room t c = room-wrote (list-more t c .0 .wrote) (c .before .before .before .before .before .before .before .before .loop .inv .2)
+
+list-marked-room : (t : ℕ) (c : list-lts.After-marked2 (list-calls t) (list-at t) list.Post list-Inv-loop list-μ-loop) → Room (stores (c .marked2 .last .0) (c .marked2 .last .1 .0) (c .before .before .before .before .before .before .branch2 .last .1 .1 .1 .0))
+list-marked-room t c = room-put (c .marked2 .ensures .1) (list-more-room t (c .before .before .before))
+
+list-next : (t : ℕ) (c : list-lts.After-joined (list-calls t) (list-at t) list.Post list-Inv-loop list-μ-loop) → (c′ : Cursor) (S : Stores) → Read-to 0 Fronts-at (c .before .before .before .before .before .before .before .before .before .before .before .before .before .before .before .before .before .before .before .before .before .before .before .before .before .before .before .before .args .p .now) c′ (c .before .before .before .before .before .before .before .before .before .before .before .before .before .before .loop .d) S (stores (c .before .before .before .before .before .before .before .before .before .before .before .before .before .before .loop .kind) (c .before .before .before .before .before .before .before .before .before .before .before .before .before .before .loop .arg) (c .before .before .before .before .before .before .before .before .before .before .before .before .before .before .loop .class)) → Turned (c .before .before .before .before .before .before .before .before .before .before .before .before .before .before .before .before .before .before .before .before .before .before .before .before .before .before .before .before .args .p .now) c′ (c .joined .result) S (stores (c .joined .last .0) (c .joined .last .1 .0) (c .before .before .before .before .before .before .before .before .before .branch2 .last .1 .1 .1 .0))
+list-next t c = λ c′ S h. turned h (c .before .before .before .before .before .before .before .before .before .before .past .ensures) (list-more t (c .before .before .before .before .before .before) .0) (c .before .before .before .marked2 .ensures .0) (c .before .before .before .marked2 .ensures .1) (c .joined .ensures .0) (c .joined .ensures .1)
+
+list-turned : (t : ℕ) (c : list-lts.After-joined (list-calls t) (list-at t) list.Post list-Inv-loop list-μ-loop) → Turned (c .before .before .before .before .before .before .before .before .before .before .before .before .before .before .before .before .before .before .before .before .before .before .before .before .before .before .before .before .args .p .now) (c .before .before .before .before .before .before .before .before .before .before .before .before .before .before .before .before .before .before .before .before .before .before .before .before .before .before .before .before .args .c) (c .joined .result) (stores (c .before .before .before .before .before .before .before .before .before .before .before .before .before .before .before .before .before .before .before .before .before .before .before .before .before .before .before .before .args .kind .now) (c .before .before .before .before .before .before .before .before .before .before .before .before .before .before .before .before .before .before .before .before .before .before .before .before .before .before .before .before .args .arg .now) (c .before .before .before .before .before .before .before .before .before .before .before .before .before .before .before .before .before .before .before .before .before .before .before .before .before .before .before .before .args .class .now)) (stores (c .joined .last .0) (c .joined .last .1 .0) (c .before .before .before .before .before .before .before .before .before .branch2 .last .1 .1 .1 .0))
+list-turned t c = list-next t c (c .before .before .before .before .before .before .before .before .before .before .before .before .before .before .before .before .before .before .before .before .before .before .before .before .before .before .before .before .args .c) (stores (c .before .before .before .before .before .before .before .before .before .before .before .before .before .before .before .before .before .before .before .before .before .before .before .before .before .before .before .before .args .kind .now) (c .before .before .before .before .before .before .before .before .before .before .before .before .before .before .before .before .before .before .before .before .before .before .before .before .before .before .before .before .args .arg .now) (c .before .before .before .before .before .before .before .before .before .before .before .before .before .before .before .before .before .before .before .before .before .before .before .before .before .before .before .before .args .class .now)) (list-so-far t (c .before .before .before .before .before .before .before .before .before .before .before .before .before .before))
+
+list-turned-room : (t : ℕ) (c : list-lts.After-joined (list-calls t) (list-at t) list.Post list-Inv-loop list-μ-loop) → Room (stores (c .joined .last .0) (c .joined .last .1 .0) (c .before .before .before .before .before .before .before .before .before .branch2 .last .1 .1 .1 .0))
+list-turned-room t c = room-wrote (list-turned t c .wrote) (c .before .before .before .before .before .before .before .before .before .before .before .before .before .before .before .before .before .before .before .before .before .before .before .before .before .before .before .before .pre .1 .0)
 
 list-branch-requires : (t : ℕ) → list-lts.Need-branch-requires (list-calls t) (list-at t) list.Post list-Inv-loop list-μ-loop
 list-branch-requires t c κs = (omega (arith, c .before .before .before .before .pre .0), c .before .before .before .before .pre .1)
@@ -239,10 +299,10 @@ list-stands-requires : (t : ℕ) → list-lts.Need-stands-requires (list-calls t
 list-stands-requires t c κs = search needs
 
 list-marked-requires : (t : ℕ) → list-lts.Need-marked-requires (list-calls t) (list-at t) list.Post list-Inv-loop list-μ-loop
-list-marked-requires t c κs = let h = rw (c .before .before .before .before .before .first .given .1) at (c .before .before .before .before .before .before .before .branch .ensures) in let r = room-wrote (h .0 .wrote) (c .before .before .before .before .before .before .before .before .before .before .before .before .pre .1 .0) in omega (arith, r, h .0 .moved, c .before .before .before .before .before .before .before .before .before .before .before .before .pre .1 .1)
+list-marked-requires t c κs = let h = list-lone t (c .before .before .before .before) in let r = list-room t (c .before .before .before .before) in omega (arith, r, h .0 .moved, c .before .before .before .before .before .before .before .before .before .before .before .before .pre .1 .1)
 
 list-loop-holds : (t : ℕ) → list-lts.Need-loop-holds (list-calls t) (list-at t) list.Post list-Inv-loop list-μ-loop
-list-loop-holds t c = let n = list-first t c in (within (c .before .before .before .before .before .before .before .before .before .before .before .before .before .pre .1 .1) (n .moved), omega (arith, n .moved), room-wrote (n .wrote) (c .before .before .before .before .before .before .before .before .before .before .before .before .before .pre .1 .0), byte-there (c .marked .ensures .0 .at) (rw (c .before .before .before .if1 .taken) at (c .before .before .before .before .stands .ensures)), λ c′ S x. x)
+list-loop-holds t c = let n = list-first t c in (within (c .before .before .before .before .before .before .before .before .before .before .before .before .before .pre .1 .1) (n .moved), omega (arith, n .moved), list-first-room t c, byte-there (c .marked .ensures .0 .at) (rw (c .before .before .before .if1 .taken) at (c .before .before .before .before .stands .ensures)), λ c′ S x. x)
 
 list-past-requires : (t : ℕ) → list-lts.Need-past-requires (list-calls t) (list-at t) list.Post list-Inv-loop list-μ-loop
 list-past-requires t c κs = omega (arith, c .before .before .before .loop .inv .0)
@@ -260,28 +320,28 @@ list-enum-known-e : (t : ℕ) → list-lts.Need-enum-known-e (list-calls t) (lis
 list-enum-known-e t c = search needs
 
 list-marked-requires-2 : (t : ℕ) → list-lts.Need-marked-requires-2 (list-calls t) (list-at t) list.Post list-Inv-loop list-μ-loop
-list-marked-requires-2 t c κs = let x = rw (c .before .before .before .e .given .1) at (c .before .before .before .before .before .branch2 .ensures) in let r = room-wrote (x .0 .wrote) (c .before .before .before .before .before .before .before .before .before .before .loop .inv .2) in omega (arith, r, x .0 .moved, c .before .before .before .before .before .before .past .ensures, c .before .before .before .before .before .before .before .before .before .before .loop .inv .0)
+list-marked-requires-2 t c κs = let x = list-more t (c .before .before) in let r = list-more-room t (c .before .before) in omega (arith, r, x .0 .moved, c .before .before .before .before .before .before .past .ensures, c .before .before .before .before .before .before .before .before .before .before .loop .inv .0)
 
 list-joined-requires : (t : ℕ) → list-lts.Need-joined-requires (list-calls t) (list-at t) list.Post list-Inv-loop list-μ-loop
-list-joined-requires t c κs = let x = rw (c .before .before .before .before .before .before .e .given .1) at (c .before .before .before .before .before .before .before .before .branch2 .ensures) in let r = room-put (c .before .before .marked2 .ensures .1) (room-wrote (x .0 .wrote) (c .before .before .before .before .before .before .before .before .before .before .before .before .before .loop .inv .2)) in omega (arith, r, x .0 .moved, c .before .before .before .before .before .before .before .before .before .past .ensures, c .before .before .marked2 .ensures .0, c .before .before .before .before .before .before .before .before .before .before .before .before .before .loop .inv .0, c .before .before .before .before .before .before .before .before .before .before .before .before .before .loop .inv .1)
+list-joined-requires t c κs = let x = list-more t (c .before .before .before .before .before) in let r = list-marked-room t (c .before .before) in omega (arith, r, x .0 .moved, c .before .before .before .before .before .before .before .before .before .past .ensures, c .before .before .marked2 .ensures .0, c .before .before .before .before .before .before .before .before .before .before .before .before .before .loop .inv .0, c .before .before .before .before .before .before .before .before .before .before .before .before .before .loop .inv .1)
 
 list-stands-requires-2 : (t : ℕ) → list-lts.Need-stands-requires-2 (list-calls t) (list-at t) list.Post list-Inv-loop list-μ-loop
 list-stands-requires-2 t c κs = search needs
 
 list-returns-2 : (t : ℕ) → list-lts.Need-returns-2 (list-calls t) (list-at t) list.Post list-Inv-loop list-μ-loop
-list-returns-2 t c = let x = rw (c .before .before .before .before .before .before .before .before .before .e .given .1) at (c .before .before .before .before .before .before .before .before .before .before .before .branch2 .ensures) in (turned-list (turned (list-so-far t (c .before .before .before .before .before .before .before .before .before .before .before .before .before .before .before .before)) (c .before .before .before .before .before .before .before .before .before .before .before .before .past .ensures) (x .0) (c .before .before .before .before .before .marked2 .ensures .0) (c .before .before .before .before .before .marked2 .ensures .1) (c .before .before .joined .ensures .0) (c .before .before .joined .ensures .1)), list-end (x .1) (c .before .before .joined .ensures .0 .at ∙ c .before .before .before .before .before .marked2 .ensures .0 .at) (rw (not-true (c .before .stands2 .result) (c .if2 .taken)) at (c .before .stands2 .ensures)))
+list-returns-2 t c = (turned-list (list-turned t (c .before .before)), list-end (list-more t (c .before .before .before .before .before .before .before .before) .1) (c .before .before .joined .ensures .0 .at ∙ c .before .before .before .before .before .marked2 .ensures .0 .at) (rw (not-true (c .before .stands2 .result) (c .if2 .taken)) at (c .before .stands2 .ensures)))
 
 list-loop-less : (t : ℕ) → list-lts.Need-loop-less (list-calls t) (list-at t) list.Post list-Inv-loop list-μ-loop
-list-loop-less t c = let x = rw (c .before .before .before .before .before .before .before .before .before .e .given .1) at (c .before .before .before .before .before .before .before .before .before .before .before .branch2 .ensures) in omega (arith, x .0 .moved, c .before .before .before .before .before .before .before .before .before .before .before .before .past .ensures, c .before .before .before .before .before .marked2 .ensures .0, c .before .before .joined .ensures .0)
+list-loop-less t c = let x = list-more t (c .before .before .before .before .before .before .before .before) in omega (arith, x .0 .moved, c .before .before .before .before .before .before .before .before .before .before .before .before .past .ensures, c .before .before .before .before .before .marked2 .ensures .0, c .before .before .joined .ensures .0)
 
 list-loop-again : (t : ℕ) → list-lts.Need-loop-again (list-calls t) (list-at t) list.Post list-Inv-loop list-μ-loop
-list-loop-again t c = let x = rw (c .before .before .before .before .before .before .before .before .before .e .given .1) at (c .before .before .before .before .before .before .before .before .before .before .before .branch2 .ensures) in let b = rw (not-false (c .before .stands2 .result) (c .if2 .left)) at (c .before .stands2 .ensures) in let n = turned-front (turned (list-so-far t (c .before .before .before .before .before .before .before .before .before .before .before .before .before .before .before .before)) (c .before .before .before .before .before .before .before .before .before .before .before .before .past .ensures) (x .0) (c .before .before .before .before .before .marked2 .ensures .0) (c .before .before .before .before .before .marked2 .ensures .1) (c .before .before .joined .ensures .0) (c .before .before .joined .ensures .1)) b in (within (c .before .before .before .before .before .before .before .before .before .before .before .before .before .before .before .before .before .before .before .before .before .before .before .before .before .before .before .before .before .before .pre .1 .1) (n .moved), omega (arith, n .moved), room-wrote (n .wrote) (c .before .before .before .before .before .before .before .before .before .before .before .before .before .before .before .before .before .before .before .before .before .before .before .before .before .before .before .before .before .before .pre .1 .0), b, λ c′ S y. turned-front (turned (c .before .before .before .before .before .before .before .before .before .before .before .before .before .before .before .before .loop .inv .4 c′ S y) (c .before .before .before .before .before .before .before .before .before .before .before .before .past .ensures) (x .0) (c .before .before .before .before .before .marked2 .ensures .0) (c .before .before .before .before .before .marked2 .ensures .1) (c .before .before .joined .ensures .0) (c .before .before .joined .ensures .1)) b)
+list-loop-again t c = let n = list-turned t (c .before .before) in (within (c .before .before .before .before .before .before .before .before .before .before .before .before .before .before .before .before .before .before .before .before .before .before .before .before .before .before .before .before .before .before .pre .1 .1) (n .moved), omega (arith, n .moved), list-turned-room t (c .before .before), rw (not-false (c .before .stands2 .result) (c .if2 .left)) at (c .before .stands2 .ensures), λ c′ S y. turned-front (list-next t (c .before .before) c′ S (c .before .before .before .before .before .before .before .before .before .before .before .before .before .before .before .before .loop .inv .4 c′ S y)) (rw (not-false (c .before .stands2 .result) (c .if2 .left)) at (c .before .stands2 .ensures)))
 
 list-returns-3 : (t : ℕ) → list-lts.Need-returns-3 (list-calls t) (list-at t) list.Post list-Inv-loop list-μ-loop
 list-returns-3 t c = list-first-bad (c .before .before .before .before .before .before .before .before .pre .1 .1 .inside) (rw (c .before .k .given .1) at (c .before .before .before .branch .ensures))
 
 list-returns-4 : (t : ℕ) → list-lts.Need-returns-4 (list-calls t) (list-at t) list.Post list-Inv-loop list-μ-loop
-list-returns-4 t c = let h = rw (c .before .before .before .first .given .1) at (c .before .before .before .before .before .branch .ensures) in (lone-list (h .0), list-end (h .1) refl (rw (c .if1 .left) at (c .before .stands .ensures)))
+list-returns-4 t c = let h = list-lone t (c .before .before) in (lone-list (h .0), list-end (h .1) refl (rw (c .if1 .left) at (c .before .stands .ensures)))
 
 pub +atom+branch+item+list-spec : {M : Type 1} → statement M
 +atom+branch+item+list-spec =

@@ -1,10 +1,9 @@
+-- `goes_on` meets its contract. Assumes nothing.
 use borrow.Author.Needs.{needs}
 use native.Mathlib.Omega.{arith}
 use Rattle.pattern.specs.Parts.{of-text, by-bar, by-close}
 use Rattle.pattern.proofs.parts.goes_on.Statement.{statement}
 use Rattle.pattern.proofs.parts.goes_on.Tie as tie
-use Rattle.pattern.proofs.parts.goes_on.Reads as reads
-use Rattle.pattern.proofs.parts.goes_on.Lts as lts
 
 shared-slice-read-b : tie.Need-shared-slice-read-b
 shared-slice-read-b c = search needs

@@ -1,11 +1,10 @@
+-- `sign` meets its contract. Assumes nothing.
 use borrow.Author.Needs.{needs}
 use native.Mathlib.Omega.{arith}
 use Rattle.grammar.specs.ByteTests.{no-sign}
 use Rattle.pattern.specs.Parts.{star-at, plus-at, opt-at, none-at}
 use Rattle.pattern.proofs.parts.sign.Statement.{statement}
 use Rattle.pattern.proofs.parts.sign.Tie as tie
-use Rattle.pattern.proofs.parts.sign.Reads as reads
-use Rattle.pattern.proofs.parts.sign.Lts as lts
 
 shared-slice-read-b : tie.Need-shared-slice-read-b
 shared-slice-read-b c = search needs

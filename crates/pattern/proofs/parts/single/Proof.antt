@@ -1,12 +1,9 @@
+-- `single` meets its contract. Assumes nothing.
 use borrow.Author.Needs.{needs}
 use native.Mathlib.Omega.{arith}
 use Rattle.pattern.proofs.Steps.{letter-read}
 use Rattle.pattern.proofs.parts.single.Statement.{statement}
 use Rattle.pattern.proofs.parts.single.Tie as tie
-use Rattle.pattern.proofs.parts.single.Reads as reads
-use Rattle.pattern.proofs.parts.single.Lts as lts
-use Rattle.pattern.proofs.letters.letter.Reads as letter-reads
-use Rattle.pattern.proofs.nodes.position.Reads as position-reads
 
 letter-requires : tie.Need-letter-requires
 letter-requires c κs = (c .before .pre .1 .inside, c .before .pre .2)
