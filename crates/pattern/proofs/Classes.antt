@@ -1,11 +1,9 @@
 -- From the ways through the readers of letters to what they say; the words of a class. Assumes nothing.
 use mathlib.Core.Path.{_≡_, refl, sym, _∙_, ap}
-use mathlib.Core.Bool.{Bool, true, false, _||_}
+use mathlib.Core.Bool.{Bool, false, _||_}
 use mathlib.Core.List.{List, [], _∷_}
 use Prim.Native.Nat.{ℕ, suc, _+_, _*_, _≤_, _<_}
 use native.Mathlib.Omega.{arith}
-use native.Mathlib.Numerals.{add-one}
-use lib.Dec.{leb, leb·zero}
 use borrow.Author.Tests.{le-leb}
 use lib.ListN.{length, getD, set}
 use lib.Seq.{sets, set-out}
@@ -16,9 +14,9 @@ use Rattle.meaning.specs.Expression.{pos}
 use Rattle.meaning.specs.Grammar.{any, range, either}
 use Rattle.meaning.specs.ReadPattern.{word, words}
 use Rattle.grammar.specs.Contract.{Atom-done, Item-bad}
-use Rattle.grammar.specs.ClassContract.{Range-done, Ranges-done, Class-done, Class-bad, ranges-first, ranges-more, atom-class, atom-class-bad}
+use Rattle.grammar.specs.ClassContract.{Ranges-done, Class-bad, ranges-first, ranges-more, atom-class, atom-class-bad}
 use Rattle.pattern.specs.Stores.{Tests}
-use Rattle.pattern.specs.Letters.{On, Letter-to, Position-done, Range-to, Class-read, Classed, Letter-read, Lettered, Ranged}
+use Rattle.pattern.specs.Letters.{On, Letter-to, Range-to, Class-read, Classed, Letter-read, Lettered, Ranged}
 use Rattle.pattern.specs.declared.letters.Past.{Past}
 use Rattle.pattern.specs.declared.letters.Past.the-variants.{To, Not}
 use Rattle.pattern.specs.declared.letters.Taken.{Taken}

@@ -1,13 +1,12 @@
 -- What a caller may rely on of an answer. Assumes nothing.
 use mathlib.Core.Path.{_≡_, refl, sym, _∙_, ap, ap₂}
 use mathlib.Core.Bool.{Bool, true, false, _&&_, _||_, or-false}
-use mathlib.Core.List.{List, [], _∷_, _++_}
-use mathlib.Core.Logic.{_⊎_, inl, inr, ⊎-elim}
+use mathlib.Core.List.{List, _++_}
 use Prim.Native.Nat.{ℕ, zero, suc, _+_, _-_, _*_, _/_, _%_, _≤_, _<_}
 use native.Mathlib.Omega.{arith}
 use native.Mathlib.Decide.{decLt}
 use borrow.Author.Tests.{ltb-true, ltb-false, eq-eqb}
-use lib.Dec.{eqb, ltb}
+use lib.Dec.{ltb}
 use lib.ListN.{length, getD, length-append, length-replicate}
 use Rattle.meaning.specs.Expression.{Re, eps, pos, cat, alt, branch, star, plus, opt, size, marks}
 use Rattle.meaning.specs.ReadPattern as meaning
@@ -17,7 +16,7 @@ use Rattle.meaning.specs.Promise.{Read, long-pattern, refused, accepted, Refuse
 use Rattle.grammar.specs.Bounds.{pattern-small}
 use Rattle.positions.specs.Places.{In, placed}
 use Rattle.positions.specs.Tests.{reads, reads-some}
-use Rattle.laws.specs.Holds.{Holds, Stands, stands-left, stands-right, stands-at, padded-stands, read-pattern-holds, kinds-length, args-length, nodes-some}
+use Rattle.laws.specs.Holds.{Holds, Stands, stands-left, stands-right, stands-at, padded-stands, read-pattern-holds, kinds-length, args-length}
 use Rattle.bits.specs.Bit.{bit}
 use Rattle.bits.proofs.Bits.{bit-binary}
 use Rattle.pattern.specs.Answers.{number-of, value-of, parts-of}

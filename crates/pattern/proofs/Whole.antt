@@ -1,6 +1,6 @@
 -- The whole pattern: which answer the readings allow. Assumes nothing.
-use mathlib.Core.Path.{_≡_, refl, sym, _∙_, ap, ap₂}
-use mathlib.Core.List.{List, [], _∷_, _++_}
+use mathlib.Core.Path.{_≡_, sym, _∙_, ap, ap₂}
+use mathlib.Core.List.{List, _++_}
 use Prim.Native.Nat.{ℕ, zero, suc, _+_, _-_, _*_, _≤_, _<_}
 use native.Mathlib.Omega.{arith}
 use native.Mathlib.Nat.{zero-add}
@@ -9,7 +9,7 @@ use lib.Seq.{sets, sets-eq, length-sets, drop-append-seam}
 use Rattle.meaning.specs.Expression.{Re, size, marks}
 use Rattle.meaning.specs.Grammar.{Pattern}
 use Rattle.meaning.specs.ReadPattern.{nodes, kinds, args, words, padded, read-pattern, no-parts}
-use Rattle.meaning.specs.Promise.{Read, long-pattern, refused, accepted, not-a-pattern, nested, positions, over-marks, Accepted}
+use Rattle.meaning.specs.Promise.{Read, refused, accepted, not-a-pattern, nested, positions, over-marks, Accepted}
 use Rattle.grammar.specs.Place.{Stops, stops-mistake}
 use Rattle.grammar.specs.ByteTests.{bytes-of}
 use Rattle.grammar.specs.Contract.{List-done, List-bad, read-done, read-bad, read-short}
@@ -19,7 +19,6 @@ use Rattle.pattern.specs.Stores.{bare-args, Stores, stores, Became, Lies
 use Rattle.pattern.specs.Parts.{Read-to}
 use Rattle.pattern.specs.declared.nodes.Cursor.{Cursor}
 use Rattle.pattern.specs.declared.Reading.{Reading}
-use Rattle.pattern.specs.declared.Reading.the-variants.{NoPattern, TooLong, TooDeep, ManyPositions, ManyMarks}
 use Rattle.pattern.specs.declared.ReadPattern.{ReadPattern}
 use Rattle.pattern.specs.declared.Answer.{Answer}
 use Rattle.pattern.proofs.Rows.{sets-stands, length-bare-args, length-words}

@@ -2,12 +2,12 @@
 use mathlib.Core.Path.{_≡_}
 use mathlib.Core.Bool.{Bool, true, false}
 use mathlib.Core.List.{List}
-use Prim.Native.Nat.{ℕ, _+_, _≤_, _<_}
-use lib.ListN.{length, getD}
-use Rattle.meaning.specs.Expression.{Re, pos}
+use Prim.Native.Nat.{ℕ, _≤_, _<_}
+use lib.ListN.{length}
+use Rattle.meaning.specs.Expression.{pos}
 use Rattle.meaning.specs.Grammar.{range, one-of, signs}
 use Rattle.grammar.specs.Contract.{Stray, Atom-done, Item-bad}
-use Rattle.grammar.specs.ClassContract.{Char-at, No-char, Range-done, Range-bad, Ranges-done, Class-done, Class-bad}
+use Rattle.grammar.specs.ClassContract.{Char-at, No-char, Range-done, Range-bad, Class-done, Class-bad}
 use Rattle.sets.specs.declared.class.Class.{Class}
 use Rattle.pattern.specs.Stores.{Tests}
 use Rattle.pattern.specs.declared.letters.Past.{Past}

@@ -17,9 +17,9 @@ pub record Byte-at (s : List ℕ) (i b : ℕ) : Type 0 where
   pub inside : i < length s
   pub is : getD s i 0 ≡ b
 
-abbrev pub Stands : List ℕ → ℕ → ℕ → Bool → Type 0
-Stands s i b true = Byte-at s i b
-Stands s i b false = Byte-at s i b → ⊥
+abbrev pub Whether-at : List ℕ → ℕ → ℕ → Bool → Type 0
+Whether-at s i b true = Byte-at s i b
+Whether-at s i b false = Byte-at s i b → ⊥
 
 -- an item can start at i
 pub record Goes (s : List ℕ) (i : ℕ) : Type 0 where

@@ -1,6 +1,6 @@
 // The atoms that read a byte: a byte, an escape, the dot, a class. Each is read into a class value.
 ghost use mathlib.Core.Path.{_≡_};
-ghost use Prim.Native.Nat.{ℕ, _+_, _<_, _≤_};
+ghost use Prim.Native.Nat.{_+_, _<_, _≤_};
 ghost use lib.ListN.{length};
 ghost use Rattle.pattern.specs.Parts.{Byte-at};
 ghost use Rattle.pattern.specs.Letters.{Byted, Spanned, Ranged, Classed, Lettered, Strayed};

@@ -1,15 +1,30 @@
 // The pattern reader: which number answers a pattern, and the read pattern.
-ghost use mathlib.Core.Path.{_≡_};
-ghost use Prim.Native.Nat.{ℕ, _≤_};
-ghost use lib.ListN.{length};
 ghost use Rattle.meaning.specs.Promise.{Read};
 ghost use Rattle.pattern.specs.Answers.{number-of, value-of, parts-of, Refusal};
 use parts::Got;
 
-pub mod letters;
-pub mod nodes;
-pub mod parts;
+mod letters;
+mod nodes;
+mod parts;
 
+// The kinds of nodes.
+pub const EPS: u8 = 0;
+
+pub const POS: u8 = 1;
+
+pub const CAT: u8 = 2;
+
+pub const ALT: u8 = 3;
+
+pub const BRANCH: u8 = 4;
+
+pub const STAR: u8 = 5;
+
+pub const PLUS: u8 = 6;
+
+pub const OPT: u8 = 7;
+
+// The limits.
 pub const PATTERN_LIMIT: usize = 512;
 
 pub const NESTING_LIMIT: usize = 64;

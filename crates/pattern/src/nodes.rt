@@ -1,25 +1,9 @@
 // The stores of the nodes, and the cursor that says how much of them is used.
 ghost use mathlib.Core.Path.{_≡_};
-ghost use Prim.Native.Nat.{ℕ, _+_, _-_, _<_, _≤_, max};
+ghost use Prim.Native.Nat.{_+_, _-_, _<_, _≤_, max};
 ghost use lib.ListN.{length};
 ghost use Rattle.pattern.specs.Stores.{Became, Put, Keeps, Numberable, Numbers};
 use sets::class::Class;
-
-pub const EPS: u8 = 0;
-
-pub const POS: u8 = 1;
-
-pub const CAT: u8 = 2;
-
-pub const ALT: u8 = 3;
-
-pub const BRANCH: u8 = 4;
-
-pub const STAR: u8 = 5;
-
-pub const PLUS: u8 = 6;
-
-pub const OPT: u8 = 7;
 
 // The place in the pattern, how many nodes, positions and marks there are, and how deep what was read last nests.
 pub struct Cursor {
@@ -85,7 +69,7 @@ pub fn empty(kind: &mut [u8; 1024], arg: &mut [u16; 1024], c: Cursor) -> Cursor
     ensures { λ r. ⌜ Became r (c .at + 2) (c .used + 1) (c .positions) (c .marks) 1 ⌝ }
     ensures { λ r. ⌜ Put (c .used) 0 0 (now (kind .entry)) (now (arg .entry)) (now (kind .exit)) (now (arg .exit)) ⌝ }
 {
-    put(kind, arg, c.used, EPS, 0);
+    put(kind, arg, c.used, super::EPS, 0);
     Cursor {
         at: c.at + 2,
         used: c.used + 1,
@@ -159,7 +143,7 @@ pub fn position(
     ensures { λ r. ⌜ Keeps (c .positions) k (now (class .entry)) (now (class .exit)) ⌝ }
 {
     let n = c.positions;
-    put(kind, arg, c.used, POS, n);
+    put(kind, arg, c.used, super::POS, n);
     keep(class, n, k);
     Cursor {
         at: next,
@@ -176,10 +160,10 @@ pub fn number(kind: &[u8; 1024], arg: &mut [u16; 1024], i: usize, m: u16) -> u16
     ensures { λ r. ⌜ Numbers (now (kind .entry)) (now (arg .entry)) (now (arg .exit)) i m r ⌝ }
 {
     let k = kind[i];
-    if k < CAT {
+    if k < super::CAT {
         return m;
     }
-    if k < BRANCH {
+    if k < super::BRANCH {
         let left = arg[i] as usize;
         let n = number(kind, arg, left, m);
         return number(kind, arg, i - 1, n);

@@ -1,9 +1,8 @@
 // A branch list, a branch, an item and an atom: four functions that call each other in a cycle.
-ghost use mathlib.Core.Path.{_≡_};
-ghost use Prim.Native.Nat.{ℕ, _+_, _<_, _≤_};
+ghost use Prim.Native.Nat.{_+_, _<_};
 ghost use lib.ListN.{length};
 ghost use Rattle.pattern.specs.Stores.{stores, Room, Within};
-ghost use Rattle.pattern.specs.Parts.{Byte-at, Stands, Going, Signed, Atomed, Itemed, Branched, Listed};
+ghost use Rattle.pattern.specs.Parts.{Byte-at, Whether-at, Going, Signed, Atomed, Itemed, Branched, Listed};
 use super::letters;
 use super::letters::Past;
 use super::nodes;
@@ -16,7 +15,7 @@ pub enum Got {
 
 // Whether the byte b stands at `at`.
 fn stands(p: &[u8], at: usize, b: u8) -> bool
-    ensures { λ r. ⌜ Stands (now (p .entry)) at b r ⌝ }
+    ensures { λ r. ⌜ Whether-at (now (p .entry)) at b r ⌝ }
 {
     if at < p.len() {
         if p[at] == b {
@@ -50,13 +49,13 @@ fn sign(p: &[u8], at: usize) -> u8
     if at < p.len() {
         let b = p[at];
         if b == b'*' {
-            return nodes::STAR;
+            return super::STAR;
         }
         if b == b'+' {
-            return nodes::PLUS;
+            return super::PLUS;
         }
         if b == b'?' {
-            return nodes::OPT;
+            return super::OPT;
         }
     }
     0
@@ -99,13 +98,13 @@ pub fn list(
         Got::Bad(k) => Got::Bad(k),
         Got::Done(first) => {
             if stands(p, first.at, b'|') {
-                let mut d = nodes::marked(kind, arg, first, first.at, nodes::BRANCH);
+                let mut d = nodes::marked(kind, arg, first, first.at, super::BRANCH);
                 loop {
                     match branch(p, kind, arg, class, nodes::past(d)) {
                         Got::Bad(k) => return Got::Bad(k),
                         Got::Done(e) => {
-                            let m = nodes::marked(kind, arg, e, e.at, nodes::BRANCH);
-                            d = nodes::joined(kind, arg, d, m, nodes::ALT);
+                            let m = nodes::marked(kind, arg, e, e.at, super::BRANCH);
+                            d = nodes::joined(kind, arg, d, m, super::ALT);
                         }
                     }
                     if !stands(p, d.at, b'|') {
@@ -136,7 +135,7 @@ fn branch(
             while goes_on(p, d.at) {
                 match item(p, kind, arg, class, d) {
                     Got::Bad(k) => return Got::Bad(k),
-                    Got::Done(e) => d = nodes::joined(kind, arg, d, e, nodes::CAT),
+                    Got::Done(e) => d = nodes::joined(kind, arg, d, e, super::CAT),
                 }
             }
             Got::Done(d)

@@ -2,7 +2,6 @@
 use Prim.Native.Nat.{ℕ, _<_}
 use borrow.Fn.Kinds.{In}
 use borrow.Fn.PlainCycle.{Measures, is, falls, and}
-use borrow.Author.Needs.{needs}
 use native.Mathlib.Omega.{arith}
 use Rattle.pattern.proofs.Marks.{splits, carries, leaf-numbers, pair-numbers, over-numbers}
 use Rattle.pattern.proofs.nodes.number.Reads as number

@@ -1,6 +1,5 @@
 -- `keep` meets its contract. Assumes nothing.
 use borrow.Author.Needs.{needs}
-use native.Mathlib.Omega.{arith}
 use Rattle.sets.proofs.ClassLaws.{class-fits}
 use Rattle.pattern.proofs.Classes.{kept, unkept}
 use Rattle.pattern.proofs.nodes.keep.Statement.{statement}
