@@ -8,7 +8,7 @@ use reference::{answers, batch, self_test, STACK};
 use std::io::{Read, Write};
 use std::process::ExitCode;
 
-const EFFORT: answers::Effort = answers::Effort { steps: 200_000_000, tokens: 0 };
+const EFFORT: answers::Effort = answers::Effort { steps: 20_000_000, tokens: 0 };
 
 fn input() -> std::io::Result<Vec<u8>> {
     let mut bytes = Vec::new();

@@ -347,6 +347,19 @@ impl FirstTwo {
         shorter.1.push(shorter.0);
     }
 
+    /// The first two of the rows kept and one more.
+    fn with_row(&mut self, kept: <FirstTwo as Keeper>::Rows, row: Name) -> Result<<FirstTwo as Keeper>::Rows, TooMuch> {
+        let (Some(first), second) = kept else { return Ok((Some(row), None)) };
+        match self.order(row, first)? {
+            Ordering::Equal => Ok(kept),
+            Ordering::Less => Ok((Some(row), Some(first))),
+            Ordering::Greater => match second {
+                Some(second) if self.order(row, second)? != Ordering::Less => Ok(kept),
+                _ => Ok((Some(first), Some(row))),
+            },
+        }
+    }
+
     /// The tokens of a row.
     pub fn written(&self, row: Name) -> Vec<u16> {
         let mut tokens = Vec::with_capacity(self.length(row));
@@ -393,19 +406,12 @@ impl Keeper for FirstTwo {
     }
 
     fn united(&mut self, one: Self::Rows, other: Self::Rows) -> Result<Self::Rows, TooMuch> {
+        if one.0.is_none() {
+            return Ok(other);
+        }
         let mut kept = one;
         for row in [other.0, other.1].into_iter().flatten() {
-            kept = match kept {
-                (None, _) => (Some(row), None),
-                (Some(first), second) => match self.order(row, first)? {
-                    Ordering::Equal => kept,
-                    Ordering::Less => (Some(row), Some(first)),
-                    Ordering::Greater => match second {
-                        Some(second) if self.order(row, second)? != Ordering::Less => kept,
-                        _ => (Some(first), Some(row)),
-                    },
-                },
-            };
+            kept = self.with_row(kept, row)?;
         }
         Ok(kept)
     }
