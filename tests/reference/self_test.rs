@@ -42,7 +42,7 @@ fn row_in_words(row: &[u16]) -> String {
 }
 
 fn readings(checks: &mut Checks) {
-    let table: [(&str, &str, &str, u32); 10] = [
+    let table: [(&str, &str, &str, u32); 19] = [
         ("()", "", "", 0),
         ("a*", "", "", 0),
         ("()+", "", "o1 c1", 0),
@@ -53,6 +53,16 @@ fn readings(checks: &mut Checks) {
         ("(a*)?", "", "", 0),
         ("a|a", "a", "o1 a c1", 1),
         ("(a|())+", "a", "o1 o2 a c2 c1", 0),
+        // worked out by hand: where marks share a start, where a later item or an earlier one has the other tree, ends of ranges
+        ("a*|b", "a", "o1 o2 a c2 c1", 0),
+        ("a*|b", "b", "o3 b c3", 0),
+        ("(a|b)*", "ba", "o1 o3 b c3 c1 o1 o2 a c2 c1", 0),
+        ("((a|b)*c)?", "bc", "o1 o2 o4 b c4 c2 c c1", 0),
+        ("(a|a)b", "ab", "o1 a c1 b", 1),
+        ("b(a|a)", "ba", "b o1 a c1", 1),
+        ("[a-c]+", "ac", "o1 a c1 o1 c c1", 0),
+        ("[b-b^\\-]+", "b^-", "o1 b c1 o1 ^ c1 o1 - c1", 0),
+        ("(()|a?)+", "", "o1 o2 c2 c1", 1),
     ];
     for (pattern, text, row, flag) in table {
         let got = answer(pattern.as_bytes(), text.as_bytes(), usize::MAX, usize::MAX, EFFORT).expect("an example costs little");
@@ -67,6 +77,11 @@ fn places(checks: &mut Checks) {
     for (pattern, place) in not_patterns {
         checks.same(pattern, numbers(pattern.as_bytes(), b"x"), (4, place, 0));
     }
+    // worked out by hand
+    for (pattern, place) in [("a]", 1), ("(|a)", 1), ("a|*", 2), ("[b-\\a]", 4), ("[a-b-c]", 4), ("[^", 2), ("[a[", 2), ("()()?+", 5)] {
+        checks.same(pattern, numbers(pattern.as_bytes(), b""), (4, place, 0));
+    }
+    checks.same("a) after 100 letters", numbers(&["a".repeat(100).as_bytes(), b")"].concat(), b""), (4, 100, 0));
     for (text, place) in [("axd", 2), ("ax", 2), ("axcc", 3)] {
         checks.same(text, numbers(b"a.c", text.as_bytes()), (8, place, 0));
     }
@@ -107,6 +122,9 @@ fn desk(checks: &mut Checks) {
     checks.same("no byte 10", prints(b"a*"), Some("ANSWER 0 0 0\nTREE\n".to_string()));
     checks.same("no input", prints(b""), Some("ANSWER 4 0 0\n".to_string()));
     checks.same("a text with byte 10", prints(b"..\n\n\xff"), Some("ANSWER 0 2 0\nTREE b10 b255\n".to_string()));
+    let filled = |behind: &str| desk_answer(format!("a*{behind}\n{}{behind}", "a".repeat(2730)).as_bytes(), EFFORT).map(|got| (got.number, got.value)).ok();
+    checks.same("8,192 tokens", filled("bb"), Some((0, 8192)));
+    checks.same("8,193 tokens", filled("bbb"), Some((9, 8193)));
     let cut = [b"a\n".to_vec(), vec![b'a'; 9000]].concat();
     checks.same("only 8,192 bytes are taken", desk_answer(&cut, EFFORT).ok().map(|got| got.number), Some(2));
 }
