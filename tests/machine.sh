@@ -1,3 +1,4 @@
+# shellcheck shell=bash
 # For scripts to source: how programs of the kit are run on this machine. They are for x86-64; on Arm the kit has an emulator.
 
 # The folder with the kit's loader, C library and, where one is needed, emulator.
@@ -23,5 +24,6 @@ find_words_for() { # PROGRAM
     local tools
     tools=$(kit_toolchain) || return 1
     find_emulator || return 1
+    # shellcheck disable=SC2034
     words=("${emulator[@]}" "$tools/lib/ld-linux-x86-64.so.2" --library-path "$tools/lib" "$1")
 }
