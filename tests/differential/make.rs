@@ -279,12 +279,12 @@ fn long_row(chance: &mut Chance) -> (Vec<u8>, Vec<u8>) {
 }
 
 fn at_a_limit(chance: &mut Chance) -> (Vec<u8>, Vec<u8>) {
-    let (pattern, text) = match chance.below(12) {
+    let (pattern, text) = match chance.below(13) {
         0 | 1 => long_pattern(chance),
         2 | 3 => many_positions(chance),
-        4 | 5 => many_marks(chance),
-        6 | 7 => deep_groups(chance),
-        8 | 9 => long_text(chance),
+        4..=6 => many_marks(chance),
+        7 | 8 => deep_groups(chance),
+        9 | 10 => long_text(chance),
         _ => long_row(chance),
     };
     if chance.percent(5) {
@@ -323,12 +323,12 @@ pub fn case(chance: &mut Chance) -> Case {
         let (pattern, text) = parts_of_input(&input);
         return Case { pattern: pattern.to_vec(), text: text.to_vec(), input };
     }
-    let (pattern, text) = if kind < 12 {
+    let (pattern, text) = if kind < 16 {
         at_a_limit(chance)
     } else {
         let letters = letters(chance);
         let whole = any_pattern(chance, &letters);
-        let pattern = if kind < 26 { damaged(chance, &whole, &letters) } else { whole };
+        let pattern = if kind < 30 { damaged(chance, &whole, &letters) } else { whole };
         let text = any_text(chance, &pattern, &letters);
         (pattern, text)
     };

@@ -162,6 +162,8 @@ static void hold_limits(void)
     hold("4,097 letters", string("a*"), wrapped(4097, "a", "", ""), DIMMHALT_TEXT_TOO_LONG);
     hold("4,097 letters and no pattern", string("("), wrapped(4097, "a", "", ""), DIMMHALT_TEXT_TOO_LONG);
     hold("4,096 letters in many ways", string("(a|a)*"), wrapped(4096, "a", "", ""), DIMMHALT_SEVERAL_TREES);
+    hold("a million bytes of pattern", wrapped(1000000, "a", "", ""), string("a"), DIMMHALT_PATTERN_TOO_LONG);
+    hold("a million bytes of text", string("a*"), wrapped(1000000, "a", "", ""), DIMMHALT_TEXT_TOO_LONG);
     hold("64 groups", wrapped(64, "(", "a", ")"), string("a"), DIMMHALT_ONE_TREE);
     hold("65 groups", wrapped(65, "(", "a", ")"), string("a"), DIMMHALT_NESTED_TOO_DEEP);
     hold("64 positions", wrapped(64, "a", "", ""), wrapped(64, "a", "", ""), DIMMHALT_ONE_TREE);

@@ -278,8 +278,8 @@ pub fn begins_a_pattern(beginning: &[u8]) -> bool {
     })
 }
 
-/// The length of the longest beginning that also begins some pattern. What begins with a shorter beginning is asked of it first, so that a
-/// search by halves finds the last that holds: a beginning of a beginning is one too.
+/// The length of the longest beginning that also begins some pattern. What begins a pattern has only such beginnings itself, so a search by
+/// halves finds the longest.
 pub fn place(pattern: &[u8]) -> usize {
     let lengths: Vec<usize> = (1..=pattern.len()).collect();
     lengths.partition_point(|&length| begins_a_pattern(&pattern[..length]))
