@@ -1,74 +1,94 @@
 -- From the end of the text backwards: the positions that can read the next byte and finish.
-use mathlib.Core.Path.{_≡_, refl, sym, _∙_}
-use mathlib.Core.Bool.{Bool, true, false, _&&_, false≢true}
+use mathlib.Core.Path.{_≡_, refl}
+use mathlib.Core.Bool.{Bool, true, false, _&&_, false≢true, or-false, and-true, and-false}
 use mathlib.Core.List.{List, [], _∷_}
 use mathlib.Core.Logic.{_↔_}
-use Prim.Native.Nat.{ℕ, _≤_}
-use Rattle.meaning.specs.Expression.{Re, marks}
-use Rattle.meaning.specs.Tree.{Tree, First, Other}
-use Rattle.grammar.specs.Fair.{Fair}
-use Rattle.positions.specs.Positions.{Out, at, Trace, done, step}
-use Rattle.positions.specs.Tests.{Ok, ok-at, ok-pass, feasible, reads, resumes, reads-full, reads-some, resumes-full, resumes-some}
-use Rattle.positions.specs.Texts.{rowIn, otherIn, ended, textRun, Exact, greedy-first, greedy-other, greedy-any}
-use Rattle.positions.specs.Truth.{and-both, both}
+use Prim.Native.Nat.{ℕ, suc, _<_}
+use native.Mathlib.Omega.{arith}
+use lib.ListN.{length, getD, drop, drop-of-length-le}
+use lib.Seq.{drop-cons, drop-length}
+use Rattle.meaning.specs.Expression.{Re, size}
+use Rattle.positions.specs.Positions.{Out, at, Resume, At, Trace, done, step}
+use Rattle.positions.specs.Sets.{reads-in}
+use Rattle.positions.specs.Tests.{Ok, ok-at, ok-pass, Can, reads, ends, reaches, resumes, reads-full, reads-some, hits, reaches-some, resumes-full, resumes-some}
+use Rattle.positions.specs.Truth.{and-both, both, alike}
 
--- the positions that can read the first byte of s and finish
+-- no byte is left
+abbrev pub ended : List ℕ → Bool
+ended [] = true
+ended (c ∷ s) = false
+
+-- q can read the first byte of s and the rest can be finished
 unfoldable pub alive : Re → List ℕ → ℕ → Bool
 alive e [] q = false
 alive e (c ∷ s) q = reads 0 e q c && resumes 0 e q (alive e s) (ended s)
 
--- sets that are computed from the end of the text backwards are exact
-pub record Backwards (e : Re) (goal : List ℕ → ℕ → Bool) : Type 0 where
-  pub at-end : (q : ℕ) → goal [] q ≡ false
-  pub at-byte : (c : ℕ) (s : List ℕ) (q : ℕ) → goal (c ∷ s) q ≡ (reads 0 e q c && resumes 0 e q (goal s) (ended s))
-
-module _ (e : Re) (goal : List ℕ → ℕ → Bool) (B : Backwards e goal) where
-  abbrev Ends : Out → List ℕ → Type 0
-  Ends o s = (r : List ℕ) × Trace 0 0 e o s r
-
-  goal-ends : (s : List ℕ) → ((q : ℕ) → goal s q ≡ true → Ends (at q) s) → (o : Out) → Ok (goal s) (ended s) o → Ends o s
-  goal-ends [] f o (ok-pass h) = ([], done)
-  goal-ends [] f o (ok-at h) = f _ h
-  goal-ends (c ∷ s) f o (ok-pass h) = absurd (false≢true h)
-  goal-ends (c ∷ s) f o (ok-at h) = f _ h
-
-  goal-some : (s : List ℕ) (q : ℕ) → goal s q ≡ true → Ends (at q) s
-  goal-some [] q h = absurd (false≢true (sym (B .at-end q) ∙ h))
-  goal-some (c ∷ s) q h =
-      let i = both (reads 0 e q c) _ (sym (B .at-byte c s q) ∙ h) in
-      let w = resumes-some 0 0 e q (goal s) (ended s) (i .1) in
-      (_, step (reads-some 0 e q c (i .0)) (w .2) (goal-ends s (goal-some s) _ (w .3) .1))
-
-  goal-ok : {s r : List ℕ} {o : Out} → Trace 0 0 e o s r → Ok (goal s) (ended s) o
-  goal-ok done = ok-pass refl
-  goal-ok (step a w t) = ok-at (B .at-byte _ _ _ ∙ and-both (reads-full a) (resumes-full w (goal-ok t)))
-
-  ok-goal : {q : ℕ} {b : Bool} (s : List ℕ) → Ok (goal s) b (at q) → goal s q ≡ true
-  ok-goal s (ok-at h) = h
-
-  pub backwards-exact : Exact 0 0 e goal
-  backwards-exact s q = (goal-some s q, λ t. ok-goal s (goal-ok (t .1)))
-
-pub alive-exact : (e : Re) → Exact 0 0 e (alive e)
+none-reached : (e : Re) (q : ℕ) → reaches 0 e q (alive e []) ≡ false
 unfolding alive
-alive-exact e = backwards-exact e (alive e) (record { at-end = λ q. refl; at-byte = λ c s q. refl })
+none-reached e q = alike _ _ (λ h. elim (reaches-some 0 0 e q (alive e []) h) [ hits w k ↦ k ]) (λ h. absurd (false≢true h))
 
--- the method, of e and s alone
-abbrev pub found : Re → List ℕ → Bool
-found e s = feasible 0 e (alive e s) (ended s)
+-- the sets from the last one to the first
+pub alive-last : (e : Re) (c q : ℕ) → alive e (c ∷ []) q ≡ (reads 0 e q c && ends 0 e q)
+unfolding alive
+alive-last e c q = rw (none-reached e q, and-true (ends 0 e q))
 
-abbrev pub firstRow : Re → List ℕ → List ℕ
-firstRow e s = rowIn (textRun (alive e) 0 0 e s)
+pub alive-more : (e : Re) (c d : ℕ) (s : List ℕ) (q : ℕ) → alive e (c ∷ d ∷ s) q ≡ (reads 0 e q c && reaches 0 e q (alive e (d ∷ s)))
+alive-more e c d s q = unfold alive in rw (and-false (ends 0 e q), or-false (reaches 0 e q (alive e (d ∷ s))))
 
-abbrev pub another : Re → List ℕ → Bool
-another e s = otherIn (textRun (alive e) 0 0 e s)
+-- the same by places of a text
+pub alive-at-last : (e : Re) (s : List ℕ) (i q : ℕ) → suc i ≡ length s → alive e (drop i s) q ≡ (reads 0 e q (getD s i 0) && ends 0 e q)
+alive-at-last e s i q h =
+    let z : drop (suc i) s ≡ [] = drop-of-length-le s {i = suc i} (omega arith) in
+    rw (drop-cons s i 0 (omega arith), z) (alive-last e (getD s i 0) q)
 
-module _ (e : Re) (f : Fair e) (h : marks e ≤ 127) (s : List ℕ) where
-  pub found-right : (found e s ≡ true) ↔ ((r : List ℕ) × Tree 0 e s r)
-  found-right = greedy-any e f h (alive e) (alive-exact e) s
+pub alive-at : (e : Re) (s : List ℕ) (i q : ℕ) → suc i < length s → alive e (drop i s) q ≡ (reads 0 e q (getD s i 0) && reaches 0 e q (alive e (drop (suc i) s)))
+alive-at e s i q h = rw (drop-cons s i 0 (omega arith), drop-cons s (suc i) 0 h) (alive-more e (getD s i 0) (getD s (suc i) 0) (drop (suc (suc i)) s) q)
 
-  pub first-right : found e s ≡ true → First e s (firstRow e s)
-  first-right i = greedy-first e f h (alive e) (alive-exact e) s i
+pub ended-at : (s : List ℕ) (i : ℕ) → i < length s → ended (drop i s) ≡ false
+ended-at s i h = rw (drop-cons s i 0 h)
 
-  pub another-right : found e s ≡ true → (another e s ≡ true) ↔ Other e s
-  another-right i = greedy-other e f h (alive e) (alive-exact e) s i
+pub ended-end : (s : List ℕ) → ended (drop (length s) s) ≡ true
+ended-end s = rw (drop-length s)
+
+-- the text s can be read from o to the end
+abbrev pub Finishes : Re → Out → List ℕ → Type 0
+Finishes e o s = (r : List ℕ) × Trace 0 0 e o s r
+
+pub alive-full : {e : Re} {o : Out} {s r : List ℕ} → Trace 0 0 e o s r → Ok (alive e s) (ended s) o
+unfolding alive
+alive-full done = ok-pass refl
+alive-full (step a w t) = ok-at (and-both (reads-full a) (resumes-full w (alive-full t)))
+
+ok-finishes : {e : Re} (s : List ℕ) → ((q : ℕ) → alive e s q ≡ true → Finishes e (at q) s) → (o : Out) → Ok (alive e s) (ended s) o → Finishes e o s
+ok-finishes [] f o (ok-pass h) = ([], done)
+ok-finishes [] f o (ok-at h) = f _ h
+ok-finishes (c ∷ s) f o (ok-pass h) = absurd (false≢true h)
+ok-finishes (c ∷ s) f o (ok-at h) = f _ h
+
+position-finishes : (e : Re) (s : List ℕ) (q : ℕ) → alive e s q ≡ true → Finishes e (at q) s
+unfolding alive
+position-finishes e [] q h = absurd (false≢true h)
+position-finishes e (c ∷ s) q h =
+    let i = both (reads 0 e q c) _ h in
+    let w = resumes-some 0 0 e q (alive e s) (ended s) (i .1) in
+    (_, step (reads-some 0 e q c (i .0)) (w .2) (ok-finishes s (position-finishes e s) _ (w .3) .1))
+
+pub alive-some : (e : Re) (s : List ℕ) (o : Out) → Ok (alive e s) (ended s) o → Finishes e o s
+alive-some e s o h = ok-finishes s (position-finishes e s) o h
+
+pub at-goal : {g : ℕ → Bool} {b : Bool} {q : ℕ} → Ok g b (at q) → g q ≡ true
+at-goal (ok-at h) = h
+
+-- the alive positions are those from which the text can be read to the end
+pub alive-exact : (e : Re) (s : List ℕ) (q : ℕ) → (alive e s q ≡ true) ↔ Finishes e (at q) s
+alive-exact e s q = (position-finishes e s q, λ t. at-goal (alive-full (t .1)))
+
+pub alive-in : (e : Re) (s : List ℕ) (q : ℕ) → alive e s q ≡ true → q < size e
+unfolding alive
+alive-in e [] q h = absurd (false≢true h)
+alive-in e (c ∷ s) q h = let i = reads-in 0 e q c (both (reads 0 e q c) _ h .0) in omega arith
+
+-- where position q is alive, it reads the byte, and there is a way on
+pub alive-on : (e : Re) (c : ℕ) (s : List ℕ) (q : ℕ) → alive e (c ∷ s) q ≡ true → At 0 e q c × Can (Resume 0 0 e q) (alive e s) (ended s)
+unfolding alive
+alive-on e c s q h = let i = both (reads 0 e q c) _ h in (reads-some 0 e q c (i .0), resumes-some 0 0 e q (alive e s) (ended s) (i .1))

@@ -3,28 +3,32 @@ use mathlib.Core.Path.{_≡_, refl, ap}
 use mathlib.Core.Bool.{Bool, true, _||_}
 use mathlib.Core.List.{List, [], _∷_, _++_}
 use mathlib.Core.Logic.{inl, inr}
-use Prim.Native.Nat.{ℕ, suc, _+_, _≤_, _<_}
+use Prim.Native.Nat.{ℕ, _+_, _≤_, _<_}
 use native.Mathlib.Omega.{arith}
+use Rattle.positions.specs.Parts.{Then, stay, over, Put, puts}
 use Rattle.positions.specs.Positions.{Out, pass, at, at-pass, pass-at}
 use Rattle.positions.specs.Runs.{Run, run, rowOf, outOf, otherOf, andThen, put}
 use Rattle.positions.specs.Tests.{Ok, ok-at, ok-pass, ok-stays, ok-passes}
 use Rattle.positions.specs.Truth.{or-left, or-right, either}
 
--- ρ stands before ρ′, which ends at o′ : whatever follows, if what follows a pass is above the marks m + 1 … m + k
+-- ρ stands before ρ′, which ends at o′, whatever follows the two, if what follows a pass is above the marks m + 1 to m + k
 pub data Less (m k : ℕ) : List ℕ → List ℕ → Out → Type 0 where
   l-here : {t t′ : ℕ} {ρ ρ′ : List ℕ} {o′ : Out} → t < t′ → Less m k (t ∷ ρ) (t′ ∷ ρ′) o′
   l-pass : {t : ℕ} {ρ : List ℕ} → m < t → t ≤ m + k → Less m k (t ∷ ρ) [] pass
   l-at : {t q : ℕ} {ρ : List ℕ} → t < 256 → Less m k (t ∷ ρ) [] (at q)
   l-next : {t t′ : ℕ} {ρ ρ′ : List ℕ} {o′ : Out} → t ≡ t′ → Less m k ρ ρ′ o′ → Less m k (t ∷ ρ) (t′ ∷ ρ′) o′
 
+-- an empty row, or one that begins above n
 pub data Above (n : ℕ) : List ℕ → Type 0 where
   v-nil : Above n []
   v-cons : {t : ℕ} {τ : List ℕ} → n < t → Above n (t ∷ τ)
 
+-- the run r and another way: they are the same, or the other is later and the run says that there is another
 pub data Compared (m k : ℕ) (r : Run) (ρ : List ℕ) (o : Out) : Type 0 where
   same : rowOf r ≡ ρ → outOf r ≡ o → Compared m k r ρ o
   later : otherOf r ≡ true → Less m k (rowOf r) ρ o → Compared m k r ρ o
 
+-- a later way than that of the run
 pub data Rival (m k : ℕ) (R : List ℕ → Out → Type 0) (g : ℕ → Bool) (b : Bool) (r : Run) : Type 0 where
   rival : {ρ : List ℕ} {o : Out} → R ρ o → Ok g b o → Less m k (rowOf r) ρ o → Rival m k R g b r
 
@@ -34,17 +38,6 @@ pub record Best (m k : ℕ) (R : List ℕ → Out → Type 0) (g : ℕ → Bool)
   pub ok : Ok g b (outOf r)
   pub least : (ρ : List ℕ) (o : Out) → R ρ o → Ok g b o → Compared m k r ρ o
   pub rivals : otherOf r ≡ true → Rival m k R g b r
-
-pub data Then (R S : List ℕ → Out → Type 0) : List ℕ → Out → Type 0 where
-  stay : {q : ℕ} {ρ : List ℕ} → R ρ (at q) → Then R S ρ (at q)
-  over : {ρ τ : List ℕ} {o : Out} → R ρ pass → S τ o → Then R S (ρ ++ τ) o
-
-pub data Put (t : ℕ) (R : List ℕ → Out → Type 0) : List ℕ → Out → Type 0 where
-  puts : {ρ : List ℕ} {o : Out} → R ρ o → Put t R (t ∷ ρ) o
-
-pub data Loop (m : ℕ) (R : List ℕ → Out → Type 0) : List ℕ → Out → Type 0 where
-  into : {q : ℕ} {ρ : List ℕ} → R ρ (at q) → Loop m R (suc m ∷ ρ) (at q)
-  past : Loop m R [] pass
 
 -- the order
 pub less-wider : {m k m₀ k₀ : ℕ} {ρ ρ′ : List ℕ} {o : Out} → m₀ ≤ m → m + k ≤ m₀ + k₀ → Less m k ρ ρ′ o → Less m₀ k₀ ρ ρ′ o

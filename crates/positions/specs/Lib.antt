@@ -1,18 +1,24 @@
 -- The mathematics of trees. Each module is one subject.
 pub mod Truth
 pub mod Positions
-pub mod Complete
 pub mod Places
+pub mod Parts
+pub mod Complete
 pub mod Sound
 pub mod Walks
 pub mod Erased
-pub mod Room
 pub mod Order
 pub mod Row
 pub mod Tests
+pub mod Sets
 pub mod Runs
 pub mod Best
 pub mod EnterBest
 pub mod ResumeBest
-pub mod Texts
+pub mod Links
 pub mod Alive
+pub mod Texts
+pub mod Theorem
+pub mod Reached
+pub mod Room
+pub mod RunWays

@@ -8,7 +8,7 @@ use lib.ListN.{length, length-append}
 use Rattle.meaning.specs.Expression.{Re, eps, pos, cat, alt, branch, star, plus, opt, marks}
 use Rattle.meaning.specs.Tree.{Some, some, Tree, t-eps, t-pos, t-cat, t-left, t-right, t-branch, t-none, t-turn, t-once, t-more, t-skip, t-take}
 use Rattle.meaning.specs.Limits.{room-for}
-use Rattle.positions.specs.Positions.{at}
+use Rattle.positions.specs.Positions.{Out, pass, at, Enter, e-eps, e-pos, e-cat-in, e-cat-over, e-left, e-right, e-branch-in, e-branch-over, e-star-in, e-star-over, e-plus-in, e-plus-over, e-opt-in, e-opt-over, Resume, r-pos, r-cat-in, r-cat-over, r-cat-right, r-left, r-right, r-branch-in, r-branch-out, r-star-in, r-star-out, r-star-again, r-plus-in, r-plus-out, r-plus-again, r-opt-in, r-opt-out}
 
 -- the length of a row
 most-cat : (k k′ l l′ n n′ : ℕ) → n ≤ room-for k l → n′ ≤ room-for k′ l′ → n + n′ ≤ room-for (k + k′) (l + l′)
@@ -53,3 +53,57 @@ row-length (plus x) m s r (t-once t) = simp length-append (most-turn (marks x) (
 row-length (plus x) m s r (t-more n t n′ u) = most-star (marks x) _ _ (star-length (row-length x (suc m)) (t-turn n t u))
 row-length (opt x) m s r t-skip = omega arith
 row-length (opt x) m s r (t-take n t) = simp length-append (most-turn (marks x) (length s) _ (row-length x _ _ _ t))
+
+-- between two letters: a mark is opened and closed at most once on the way into e, and on the way out of it; a way on to a position may go
+-- out of a turn and into the next one
+abbrev pub spare : Out → ℕ → ℕ
+spare pass k = 2 * k
+spare (at q) k = 4 * k
+
+spare-of : (o : Out) (k : ℕ) {n : ℕ} → n ≤ 2 * k → n ≤ spare o k
+spare-of pass k h = h
+spare-of (at q) k h = omega arith
+
+pub spare-most : (o : Out) (k : ℕ) → spare o k ≤ 4 * k
+spare-most pass k = omega arith
+spare-most (at q) k = omega arith
+
+spare-wider : (o : Out) {n k k′ : ℕ} → n ≤ spare o k → k ≤ k′ → n ≤ spare o k′
+spare-wider pass h l = omega arith
+spare-wider (at q) h l = omega arith
+
+pub enter-room : {m p : ℕ} {e : Re} {ρ : List ℕ} {o : Out} → Enter m p e ρ o → length ρ ≤ 2 * marks e
+unfolding marks
+enter-room e-eps = omega arith
+enter-room e-pos = omega arith
+enter-room (e-cat-in w) = let h = enter-room w in omega arith
+enter-room (e-cat-over w u) = let h = enter-room w in let i = enter-room u in simp length-append (omega arith)
+enter-room (e-left w) = let h = enter-room w in omega arith
+enter-room (e-right w) = let h = enter-room w in omega arith
+enter-room (e-branch-in w) = let h = enter-room w in omega arith
+enter-room (e-branch-over w) = let h = enter-room w in simp length-append (omega arith)
+enter-room (e-star-in w) = let h = enter-room w in omega arith
+enter-room e-star-over = omega arith
+enter-room (e-plus-in w) = let h = enter-room w in omega arith
+enter-room (e-plus-over w) = let h = enter-room w in simp length-append (omega arith)
+enter-room (e-opt-in w) = let h = enter-room w in omega arith
+enter-room e-opt-over = omega arith
+
+pub resume-room : {m p j : ℕ} {e : Re} {ρ : List ℕ} {o : Out} → Resume m p e j ρ o → length ρ ≤ spare o (marks e)
+unfolding marks
+resume-room r-pos = omega arith
+resume-room (r-cat-in w) = let h = resume-room w in omega arith
+resume-room (r-cat-over {o = o} w u) = let h = resume-room w in let i = enter-room u in simp length-append (spare-of o _ (omega arith))
+resume-room (r-cat-right {o = o} w) = spare-wider o (resume-room w) (omega arith)
+resume-room (r-left {o = o} w) = spare-wider o (resume-room w) (omega arith)
+resume-room (r-right {o = o} w) = spare-wider o (resume-room w) (omega arith)
+resume-room (r-branch-in w) = let h = resume-room w in omega arith
+resume-room (r-branch-out w) = let h = resume-room w in simp length-append (omega arith)
+resume-room (r-star-in w) = let h = resume-room w in omega arith
+resume-room (r-star-out w) = let h = resume-room w in simp length-append (omega arith)
+resume-room (r-star-again w u) = let h = resume-room w in let i = enter-room u in simp length-append (omega arith)
+resume-room (r-plus-in w) = let h = resume-room w in omega arith
+resume-room (r-plus-out w) = let h = resume-room w in simp length-append (omega arith)
+resume-room (r-plus-again w u) = let h = resume-room w in let i = enter-room u in simp length-append (omega arith)
+resume-room (r-opt-in w) = let h = resume-room w in omega arith
+resume-room (r-opt-out w) = let h = resume-room w in simp length-append (omega arith)

@@ -1,17 +1,17 @@
--- Tests on positions: whether a part can be passed, whether a goal can be reached from its start or from a position of it.
-use mathlib.Core.Path.{_≡_, refl}
-use mathlib.Core.Bool.{Bool, true, false, _&&_, _||_, false≢true}
+-- Tests on positions: whether a part can be passed, and whether a goal can be reached from its start or from a position of it.
+use mathlib.Core.Path.{_≡_, refl, sym, _∙_}
+use mathlib.Core.Bool.{Bool, true, false, _&&_, _||_, cond, true≢false, false≢true}
 use mathlib.Core.List.{List, []}
 use mathlib.Core.Logic.{inl, inr}
-use Prim.Native.Nat.{ℕ, suc, _+_}
-use lib.Dec.{eqb}
-use borrow.Author.Tests.{eqb-true, eq-eqb}
-use Rattle.meaning.specs.Expression.{Re, eps, pos, cat, alt, branch, star, plus, opt, marks, size}
-use Rattle.positions.specs.Complete.{star-plus-go}
-use Rattle.positions.specs.Positions.{Out, pass, at, Enter, e-eps, e-pos, e-cat-in, e-cat-over, e-left, e-right, e-branch-in, e-branch-over, e-star-in, e-star-over, e-plus-in, e-plus-over, e-opt-in, e-opt-over, Resume, r-pos, r-cat-in, r-cat-over, r-cat-right, r-left, r-right, r-branch-in, r-branch-out, r-star-in, r-star-out, r-star-again, r-plus-in, r-plus-out, r-plus-again, r-opt-in, r-opt-out, At, a-pos, a-cat-left, a-cat-right, a-left, a-right, a-branch, a-star, a-plus, a-opt}
-use Rattle.positions.specs.Truth.{or-left, or-right, and-both, either, both}
+use Prim.Native.Nat.{ℕ, suc, _+_, _≤_, _<_}
+use lib.Dec.{ltb, eqb}
+use borrow.Author.Tests.{lt-ltb, le-ltb, eqb-true, eq-eqb}
+use Rattle.meaning.specs.Expression.{Re, eps, pos, cat, alt, branch, star, plus, opt, size}
+use Rattle.positions.specs.Places.{source, placed}
+use Rattle.positions.specs.Positions.{Out, pass, at, Enter, e-eps, e-pos, e-cat-in, e-cat-over, e-left, e-right, e-branch-in, e-branch-over, e-star-in, e-star-over, e-plus-in, e-plus-over, e-opt-in, e-opt-over, Resume, r-pos, r-cat-in, r-cat-over, r-cat-right, r-left, r-right, r-branch-in, r-branch-out, r-star-in, r-star-out, r-star-again, r-plus-in, r-plus-out, r-plus-again, r-opt-in, r-opt-out, At, a-pos, a-cat-left, a-cat-right, a-left, a-right, a-branch, a-star, a-plus, a-opt, at-pass}
+use Rattle.positions.specs.Truth.{or-left, or-right, and-both, either, both, chosen}
 
--- where a walk may end
+-- where a walk may end: at a position of the goal or, if b, by passing
 pub data Ok (g : ℕ → Bool) (b : Bool) : Out → Type 0 where
   ok-at : {q : ℕ} → g q ≡ true → Ok g b (at q)
   ok-pass : b ≡ true → Ok g b pass
@@ -26,7 +26,7 @@ ok-passes (ok-pass h) = h
 abbrev pub Can : (List ℕ → Out → Type 0) → (ℕ → Bool) → Bool → Type 0
 Can R g b = (ρ : List ℕ) × (o : Out) × R ρ o × Ok g b o
 
--- some way into e ends at the goal
+-- e can be passed over no text
 unfoldable pub nullable : Re → Bool
 nullable eps = true
 nullable (pos c) = false
@@ -37,6 +37,7 @@ nullable (star x) = true
 nullable (plus x) = nullable x
 nullable (opt x) = true
 
+-- some way into e, before which p positions stand, ends at the goal
 unfoldable pub leads : ℕ → Re → (ℕ → Bool) → Bool
 leads p eps g = false
 leads p (pos c) g = g p
@@ -51,29 +52,85 @@ leads p (opt x) g = leads p x g
 abbrev pub feasible : ℕ → Re → (ℕ → Bool) → Bool → Bool
 feasible p e g b = leads p e g || (nullable e && b)
 
--- position j of e has a class with the byte c
+-- position j of e reads the byte c
 unfoldable pub reads : ℕ → Re → ℕ → ℕ → Bool
 reads p eps j c = false
 reads p (pos k) j c = eqb j p && k c
-reads p (cat x y) j c = reads p x j c || reads (p + size x) y j c
-reads p (alt x y) j c = reads p x j c || reads (p + size x) y j c
+reads p (cat x y) j c = cond (ltb j (p + size x)) (reads p x j c) (reads (p + size x) y j c)
+reads p (alt x y) j c = cond (ltb j (p + size x)) (reads p x j c) (reads (p + size x) y j c)
 reads p (branch x) j c = reads p x j c
 reads p (star x) j c = reads p x j c
 reads p (plus x) j c = reads p x j c
 reads p (opt x) j c = reads p x j c
 
--- from position j of e there is a way to the goal or, if b, out of e
-unfoldable pub resumes : ℕ → Re → ℕ → (ℕ → Bool) → Bool → Bool
-resumes p eps j g b = false
-resumes p (pos k) j g b = eqb j p && b
-resumes p (cat x y) j g b = resumes p x j g (feasible (p + size x) y g b) || resumes (p + size x) y j g b
-resumes p (alt x y) j g b = resumes p x j g b || resumes (p + size x) y j g b
-resumes p (branch x) j g b = resumes p x j g b
-resumes p (star x) j g b = resumes p x j g (leads p x g || b)
-resumes p (plus x) j g b = resumes p x j g (leads p x g || b)
-resumes p (opt x) j g b = resumes p x j g b
+-- e can be left from position j of it
+unfoldable pub ends : ℕ → Re → ℕ → Bool
+ends p eps j = false
+ends p (pos c) j = eqb j p
+ends p (cat x y) j = cond (ltb j (p + size x)) (ends p x j && nullable y) (ends (p + size x) y j)
+ends p (alt x y) j = cond (ltb j (p + size x)) (ends p x j) (ends (p + size x) y j)
+ends p (branch x) j = ends p x j
+ends p (star x) j = ends p x j
+ends p (plus x) j = ends p x j
+ends p (opt x) j = ends p x j
 
--- the tests find every way
+-- some way on from position j of e ends at the goal
+unfoldable pub reaches : ℕ → Re → ℕ → (ℕ → Bool) → Bool
+reaches p eps j g = false
+reaches p (pos c) j g = false
+reaches p (cat x y) j g = cond (ltb j (p + size x)) (reaches p x j g || (ends p x j && leads (p + size x) y g)) (reaches (p + size x) y j g)
+reaches p (alt x y) j g = cond (ltb j (p + size x)) (reaches p x j g) (reaches (p + size x) y j g)
+reaches p (branch x) j g = reaches p x j g
+reaches p (star x) j g = reaches p x j g || (ends p x j && leads p x g)
+reaches p (plus x) j g = reaches p x j g || (ends p x j && leads p x g)
+reaches p (opt x) j g = reaches p x j g
+
+-- from position j of e there is a way to the goal or, if b, out of e
+abbrev pub resumes : ℕ → Re → ℕ → (ℕ → Bool) → Bool → Bool
+resumes p e j g b = reaches p e j g || (ends p e j && b)
+
+-- the side of a position
+on-left : {a : Bool} {j n : ℕ} (b : Bool) → j < n → a ≡ true → cond (ltb j n) a b ≡ true
+on-left {j = j} {n = n} b h e = rw (lt-ltb j n h, e)
+
+on-right : {b : Bool} {j n : ℕ} (a : Bool) → n ≤ j → b ≡ true → cond (ltb j n) a b ≡ true
+on-right {j = j} {n = n} a h e = rw (le-ltb j n h, e)
+
+-- what a position reads
+pub reads-full : {p j c : ℕ} {e : Re} → At p e j c → reads p e j c ≡ true
+unfolding reads
+reads-full {p} (a-pos h) = and-both (eq-eqb p p refl) h
+reads-full (a-cat-left a) = on-left _ (placed a .1) (reads-full a)
+reads-full (a-cat-right a) = on-right _ (placed a .0) (reads-full a)
+reads-full (a-left a) = on-left _ (placed a .1) (reads-full a)
+reads-full (a-right a) = on-right _ (placed a .0) (reads-full a)
+reads-full (a-branch a) = reads-full a
+reads-full (a-star a) = reads-full a
+reads-full (a-plus a) = reads-full a
+reads-full (a-opt a) = reads-full a
+
+pub reads-some : (p : ℕ) (e : Re) (j c : ℕ) → reads p e j c ≡ true → At p e j c
+unfolding reads
+reads-some p eps j c h = absurd (false≢true h)
+reads-some p (pos k) j c h = let i = both (eqb j p) (k c) h in rw (eqb-true j p (i .0)) (a-pos (i .1))
+reads-some p (cat x y) j c h = elim (chosen (ltb j (p + size x)) (reads p x j c) _ h) [ inl i ↦ a-cat-left (reads-some p x j c i) | inr i ↦ a-cat-right (reads-some _ y j c i) ]
+reads-some p (alt x y) j c h = elim (chosen (ltb j (p + size x)) (reads p x j c) _ h) [ inl i ↦ a-left (reads-some p x j c i) | inr i ↦ a-right (reads-some _ y j c i) ]
+reads-some p (branch x) j c h = a-branch (reads-some p x j c h)
+reads-some p (star x) j c h = a-star (reads-some p x j c h)
+reads-some p (plus x) j c h = a-plus (reads-some p x j c h)
+reads-some p (opt x) j c h = a-opt (reads-some p x j c h)
+
+-- a way that passes, and a way that ends at the goal
+abbrev pub Passes : (List ℕ → Out → Type 0) → Type 0
+Passes R = (ρ : List ℕ) × R ρ pass
+
+pub data Hits (R : List ℕ → Out → Type 0) (g : ℕ → Bool) : Type 0 where
+  hits : {ρ : List ℕ} {q : ℕ} → R ρ (at q) → g q ≡ true → Hits R g
+
+hits-ways : {R S : List ℕ → Out → Type 0} {g : ℕ → Bool} → ((ρ : List ℕ) (q : ℕ) → R ρ (at q) → (σ : List ℕ) × S σ (at q)) → Hits R g → Hits S g
+hits-ways to (hits w k) = hits (to _ _ w .1) k
+
+-- the ways in
 pub nullable-full : {m p : ℕ} {e : Re} {ρ : List ℕ} → Enter m p e ρ pass → nullable e ≡ true
 unfolding nullable
 nullable-full e-eps = refl
@@ -84,6 +141,17 @@ nullable-full (e-branch-over e) = nullable-full e
 nullable-full e-star-over = refl
 nullable-full (e-plus-over e) = nullable-full e
 nullable-full e-opt-over = refl
+
+pub nullable-some : (m p : ℕ) (e : Re) → nullable e ≡ true → Passes (Enter m p e)
+unfolding nullable
+nullable-some m p eps h = ([], e-eps)
+nullable-some m p (pos c) h = absurd (false≢true h)
+nullable-some m p (cat x y) h = let i = both (nullable x) (nullable y) h in (_, e-cat-over (nullable-some m p x (i .0) .1) (nullable-some _ _ y (i .1) .1))
+nullable-some m p (alt x y) h = elim (either (nullable x) _ h) [ inl i ↦ (_, e-left (nullable-some m p x i .1)) | inr i ↦ (_, e-right (nullable-some _ _ y i .1)) ]
+nullable-some m p (branch x) h = (_, e-branch-over (nullable-some (suc m) p x h .1))
+nullable-some m p (star x) h = ([], e-star-over)
+nullable-some m p (plus x) h = (_, e-plus-over (nullable-some (suc m) p x h .1))
+nullable-some m p (opt x) h = ([], e-opt-over)
 
 pub leads-full : {m p q : ℕ} {e : Re} {ρ : List ℕ} (g : ℕ → Bool) → Enter m p e ρ (at q) → g q ≡ true → leads p e g ≡ true
 unfolding leads
@@ -97,140 +165,129 @@ leads-full g (e-star-in e) h = leads-full g e h
 leads-full g (e-plus-in e) h = leads-full g e h
 leads-full g (e-opt-in e) h = leads-full g e h
 
+pub leads-some : (m p : ℕ) (e : Re) (g : ℕ → Bool) → leads p e g ≡ true → Hits (Enter m p e) g
+unfolding leads
+leads-some m p eps g h = absurd (false≢true h)
+leads-some m p (pos c) g h = hits e-pos h
+leads-some m p (cat x y) g h = elim (either (leads p x g) _ h) [
+  | inl i ↦ hits-ways (λ ρ q w. (_, e-cat-in w)) (leads-some m p x g i)
+  | inr i ↦ let k = both (nullable x) _ i in hits-ways (λ ρ q w. (_, e-cat-over (nullable-some m p x (k .0) .1) w)) (leads-some _ _ y g (k .1))
+]
+leads-some m p (alt x y) g h = elim (either (leads p x g) _ h) [
+  | inl i ↦ hits-ways (λ ρ q w. (_, e-left w)) (leads-some m p x g i)
+  | inr i ↦ hits-ways (λ ρ q w. (_, e-right w)) (leads-some _ _ y g i)
+]
+leads-some m p (branch x) g h = hits-ways (λ ρ q w. (_, e-branch-in w)) (leads-some (suc m) p x g h)
+leads-some m p (star x) g h = hits-ways (λ ρ q w. (_, e-star-in w)) (leads-some (suc m) p x g h)
+leads-some m p (plus x) g h = hits-ways (λ ρ q w. (_, e-plus-in w)) (leads-some (suc m) p x g h)
+leads-some m p (opt x) g h = hits-ways (λ ρ q w. (_, e-opt-in w)) (leads-some (suc m) p x g h)
+
 pub feasible-full : {m p : ℕ} {e : Re} {ρ : List ℕ} {g : ℕ → Bool} {b : Bool} {o : Out} → Enter m p e ρ o → Ok g b o → feasible p e g b ≡ true
 feasible-full {g = g} w (ok-at h) = or-left _ (leads-full g w h)
 feasible-full {p = p} {e = e} {g = g} w (ok-pass h) = or-right (leads p e g) (and-both (nullable-full w) h)
 
--- reads
-pub reads-full : {p j c : ℕ} {e : Re} → At p e j c → reads p e j c ≡ true
-unfolding reads
-reads-full {p} (a-pos h) = and-both (eq-eqb p p refl) h
-reads-full (a-cat-left a) = or-left _ (reads-full a)
-reads-full {p} {j} {c} (a-cat-right {x = x} a) = or-right (reads p x j c) (reads-full a)
-reads-full (a-left a) = or-left _ (reads-full a)
-reads-full {p} {j} {c} (a-right {x = x} a) = or-right (reads p x j c) (reads-full a)
-reads-full (a-branch a) = reads-full a
-reads-full (a-star a) = reads-full a
-reads-full (a-plus a) = reads-full a
-reads-full (a-opt a) = reads-full a
+-- where a whole can be entered, so can its parts
+cat-law : (lx nx ly ny b : Bool) → ((lx || (nx && ly)) || ((nx && ny) && b)) ≡ true → (lx || (nx && (ly || (ny && b)))) ≡ true
+cat-law true nx ly ny b h = refl
+cat-law false true true ny b h = refl
+cat-law false true false ny b h = h
+cat-law false false ly ny b h = h
 
-pub reads-some : (p : ℕ) (e : Re) (j c : ℕ) → reads p e j c ≡ true → At p e j c
-unfolding reads
-reads-some p eps j c h = absurd (false≢true h)
-reads-some p (pos k) j c h = let i = both (eqb j p) (k c) h in rw (eqb-true j p (i .0)) (a-pos (i .1))
-reads-some p (cat x y) j c h = elim (either (reads p x j c) _ h) [ inl i ↦ a-cat-left (reads-some p x j c i) | inr i ↦ a-cat-right (reads-some _ y j c i) ]
-reads-some p (alt x y) j c h = elim (either (reads p x j c) _ h) [ inl i ↦ a-left (reads-some p x j c i) | inr i ↦ a-right (reads-some _ y j c i) ]
-reads-some p (branch x) j c h = a-branch (reads-some p x j c h)
-reads-some p (star x) j c h = a-star (reads-some p x j c h)
-reads-some p (plus x) j c h = a-plus (reads-some p x j c h)
-reads-some p (opt x) j c h = a-opt (reads-some p x j c h)
+pub feasible-cat : (p : ℕ) (x y : Re) (g : ℕ → Bool) (b : Bool) → feasible p (cat x y) g b ≡ true → feasible p x g (feasible (p + size x) y g b) ≡ true
+unfolding leads nullable
+feasible-cat p x y g b h = cat-law (leads p x g) (nullable x) (leads (p + size x) y g) (nullable y) b h
 
--- ways in
-pub nullable-some : (m p : ℕ) (e : Re) → nullable e ≡ true → (ρ : List ℕ) × Enter m p e ρ pass
-unfolding nullable
-nullable-some m p eps h = ([], e-eps)
-nullable-some m p (pos c) h = absurd (false≢true h)
-nullable-some m p (cat x y) h = let i = both (nullable x) (nullable y) h in let w = nullable-some m p x (i .0) in let u = nullable-some _ _ y (i .1) in (_, e-cat-over (w .1) (u .1))
-nullable-some m p (alt x y) h = elim (either (nullable x) _ h) [ inl i ↦ (_, e-left (nullable-some m p x i .1)) | inr i ↦ (_, e-right (nullable-some _ _ y i .1)) ]
-nullable-some m p (branch x) h = (_, e-branch-over (nullable-some (suc m) p x h .1))
-nullable-some m p (star x) h = ([], e-star-over)
-nullable-some m p (plus x) h = (_, e-plus-over (nullable-some (suc m) p x h .1))
-nullable-some m p (opt x) h = ([], e-opt-over)
+alt-law : (lx nx ly ny b : Bool) → ((lx || ly) || ((nx || ny) && b)) ≡ true → (lx || (nx && b)) ≡ false → (ly || (ny && b)) ≡ true
+alt-law true nx ly ny b h e = absurd (true≢false e)
+alt-law false nx true ny b h e = refl
+alt-law false true false ny b h e = absurd (true≢false (sym h ∙ e))
+alt-law false false false ny b h e = h
 
--- a way in that ends at the goal
-abbrev Goal : ℕ → ℕ → Re → (ℕ → Bool) → Type 0
-Goal m p e g = (ρ : List ℕ) × (q : ℕ) × Enter m p e ρ (at q) × (g q ≡ true)
+pub feasible-right : (p : ℕ) (x y : Re) (g : ℕ → Bool) (b : Bool) → feasible p (alt x y) g b ≡ true → feasible p x g b ≡ false → feasible (p + size x) y g b ≡ true
+unfolding leads nullable
+feasible-right p x y g b h e = alt-law (leads p x g) (nullable x) (leads (p + size x) y g) (nullable y) b h e
 
-pub leads-some : (m p : ℕ) (e : Re) (g : ℕ → Bool) → leads p e g ≡ true → Goal m p e g
-unfolding leads
-leads-some m p eps g h = absurd (false≢true h)
-leads-some m p (pos c) g h = ([], p, e-pos, h)
-leads-some m p (cat x y) g h = elim (either (leads p x g) _ h) [ inl i ↦ first (leads-some m p x g i) | inr i ↦ let k = both (nullable x) _ i in second (k .0) (leads-some (m + marks x) (p + size x) y g (k .1)) ]
-  where
-    first : Goal m p x g → Goal m p (cat x y) g
-    first (ρ, q, w, k) = (ρ, q, e-cat-in w, k)
+-- the ways on
+pub ends-full : {m p j : ℕ} {e : Re} {ρ : List ℕ} {o : Out} → Resume m p e j ρ o → o ≡ pass → ends p e j ≡ true
+unfolding ends
+ends-full {p = p} r-pos z = eq-eqb p p refl
+ends-full (r-cat-in w) z = absurd (at-pass z)
+ends-full (r-cat-over {o = pass} w u) z = on-left _ (source w .1) (and-both (ends-full w refl) (nullable-full u))
+ends-full (r-cat-over {o = at q} w u) z = absurd (at-pass z)
+ends-full (r-cat-right w) z = on-right _ (source w .0) (ends-full w z)
+ends-full (r-left w) z = on-left _ (source w .1) (ends-full w z)
+ends-full (r-right w) z = on-right _ (source w .0) (ends-full w z)
+ends-full (r-branch-in w) z = absurd (at-pass z)
+ends-full (r-branch-out w) z = ends-full w refl
+ends-full (r-star-in w) z = absurd (at-pass z)
+ends-full (r-star-out w) z = ends-full w refl
+ends-full (r-star-again w u) z = absurd (at-pass z)
+ends-full (r-plus-in w) z = absurd (at-pass z)
+ends-full (r-plus-out w) z = ends-full w refl
+ends-full (r-plus-again w u) z = absurd (at-pass z)
+ends-full (r-opt-in w) z = absurd (at-pass z)
+ends-full (r-opt-out w) z = ends-full w refl
 
-    second : nullable x ≡ true → Goal (m + marks x) (p + size x) y g → Goal m p (cat x y) g
-    second i (ρ, q, w, k) = (_, q, e-cat-over (nullable-some m p x i .1) w, k)
-leads-some m p (alt x y) g h = elim (either (leads p x g) _ h) [ inl i ↦ first (leads-some m p x g i) | inr i ↦ second (leads-some (m + marks x) (p + size x) y g i) ]
-  where
-    first : Goal m p x g → Goal m p (alt x y) g
-    first (ρ, q, w, k) = (ρ, q, e-left w, k)
+pub ends-some : (m p : ℕ) (e : Re) (j : ℕ) → ends p e j ≡ true → Passes (Resume m p e j)
+unfolding ends
+ends-some m p eps j h = absurd (false≢true h)
+ends-some m p (pos c) j h = ([], rw (eqb-true j p h) r-pos)
+ends-some m p (cat x y) j h = elim (chosen (ltb j (p + size x)) (ends p x j && nullable y) _ h) [
+  | inl i ↦ let k = both (ends p x j) _ i in (_, r-cat-over (ends-some m p x j (k .0) .1) (nullable-some _ _ y (k .1) .1))
+  | inr i ↦ (_, r-cat-right (ends-some _ _ y j i .1))
+]
+ends-some m p (alt x y) j h = elim (chosen (ltb j (p + size x)) (ends p x j) _ h) [ inl i ↦ (_, r-left (ends-some m p x j i .1)) | inr i ↦ (_, r-right (ends-some _ _ y j i .1)) ]
+ends-some m p (branch x) j h = (_, r-branch-out (ends-some (suc m) p x j h .1))
+ends-some m p (star x) j h = (_, r-star-out (ends-some (suc m) p x j h .1))
+ends-some m p (plus x) j h = (_, r-plus-out (ends-some (suc m) p x j h .1))
+ends-some m p (opt x) j h = (_, r-opt-out (ends-some (suc m) p x j h .1))
 
-    second : Goal (m + marks x) (p + size x) y g → Goal m p (alt x y) g
-    second (ρ, q, w, k) = (ρ, q, e-right w, k)
-leads-some m p (branch x) g h = let w = leads-some (suc m) p x g h in (_, w .1, e-branch-in (w .2), w .3)
-leads-some m p (star x) g h = let w = leads-some (suc m) p x g h in (_, w .1, e-star-in (w .2), w .3)
-leads-some m p (plus x) g h = let w = leads-some (suc m) p x g h in (_, w .1, e-plus-in (w .2), w .3)
-leads-some m p (opt x) g h = let w = leads-some (suc m) p x g h in (_, w .1, e-opt-in (w .2), w .3)
+pub reaches-full : {m p j q : ℕ} {e : Re} {ρ : List ℕ} (g : ℕ → Bool) → Resume m p e j ρ (at q) → g q ≡ true → reaches p e j g ≡ true
+unfolding reaches
+reaches-full g (r-cat-in w) h = on-left _ (source w .1) (or-left _ (reaches-full g w h))
+reaches-full {p = p} {j = j} g (r-cat-over {x = x} w u) h = on-left _ (source w .1) (or-right (reaches p x j g) (and-both (ends-full w refl) (leads-full g u h)))
+reaches-full g (r-cat-right w) h = on-right _ (source w .0) (reaches-full g w h)
+reaches-full g (r-left w) h = on-left _ (source w .1) (reaches-full g w h)
+reaches-full g (r-right w) h = on-right _ (source w .0) (reaches-full g w h)
+reaches-full g (r-branch-in w) h = reaches-full g w h
+reaches-full g (r-star-in w) h = or-left _ (reaches-full g w h)
+reaches-full {p = p} {j = j} g (r-star-again {x = x} w u) h = or-right (reaches p x j g) (and-both (ends-full w refl) (leads-full g u h))
+reaches-full g (r-plus-in w) h = or-left _ (reaches-full g w h)
+reaches-full {p = p} {j = j} g (r-plus-again {x = x} w u) h = or-right (reaches p x j g) (and-both (ends-full w refl) (leads-full g u h))
+reaches-full g (r-opt-in w) h = reaches-full g w h
 
-pub feasible-some : (m p : ℕ) (e : Re) (g : ℕ → Bool) (b : Bool) → feasible p e g b ≡ true → Can (Enter m p e) g b
-feasible-some m p e g b h = elim (either (leads p e g) _ h) [ inl i ↦ first (leads-some m p e g i) | inr i ↦ second (both (nullable e) b i) ]
-  where
-    first : Goal m p e g → Can (Enter m p e) g b
-    first (ρ, q, w, k) = (ρ, at q, w, ok-at k)
+pub reaches-some : (m p : ℕ) (e : Re) (j : ℕ) (g : ℕ → Bool) → reaches p e j g ≡ true → Hits (Resume m p e j) g
+unfolding reaches
+reaches-some m p eps j g h = absurd (false≢true h)
+reaches-some m p (pos c) j g h = absurd (false≢true h)
+reaches-some m p (cat x y) j g h = elim (chosen (ltb j (p + size x)) (reaches p x j g || (ends p x j && leads (p + size x) y g)) _ h) [
+  | inl i ↦ elim (either (reaches p x j g) _ i) [
+    | inl k ↦ hits-ways (λ ρ q w. (_, r-cat-in w)) (reaches-some m p x j g k)
+    | inr k ↦ let l = both (ends p x j) _ k in hits-ways (λ ρ q w. (_, r-cat-over (ends-some m p x j (l .0) .1) w)) (leads-some _ _ y g (l .1))
+  ]
+  | inr i ↦ hits-ways (λ ρ q w. (_, r-cat-right w)) (reaches-some _ _ y j g i)
+]
+reaches-some m p (alt x y) j g h = elim (chosen (ltb j (p + size x)) (reaches p x j g) _ h) [
+  | inl i ↦ hits-ways (λ ρ q w. (_, r-left w)) (reaches-some m p x j g i)
+  | inr i ↦ hits-ways (λ ρ q w. (_, r-right w)) (reaches-some _ _ y j g i)
+]
+reaches-some m p (branch x) j g h = hits-ways (λ ρ q w. (_, r-branch-in w)) (reaches-some (suc m) p x j g h)
+reaches-some m p (star x) j g h = elim (either (reaches p x j g) _ h) [
+  | inl i ↦ hits-ways (λ ρ q w. (_, r-star-in w)) (reaches-some (suc m) p x j g i)
+  | inr i ↦ let k = both (ends p x j) _ i in hits-ways (λ ρ q u. (_, r-star-again (ends-some (suc m) p x j (k .0) .1) u)) (leads-some (suc m) p x g (k .1))
+]
+reaches-some m p (plus x) j g h = elim (either (reaches p x j g) _ h) [
+  | inl i ↦ hits-ways (λ ρ q w. (_, r-plus-in w)) (reaches-some (suc m) p x j g i)
+  | inr i ↦ let k = both (ends p x j) _ i in hits-ways (λ ρ q u. (_, r-plus-again (ends-some (suc m) p x j (k .0) .1) u)) (leads-some (suc m) p x g (k .1))
+]
+reaches-some m p (opt x) j g h = hits-ways (λ ρ q w. (_, r-opt-in w)) (reaches-some (suc m) p x j g h)
 
-    second : (nullable e ≡ true) × (b ≡ true) → Can (Enter m p e) g b
-    second (i, j) = (_, pass, nullable-some m p e i .1, ok-pass j)
-
--- ways on
 pub resumes-full : {m p j : ℕ} {e : Re} {ρ : List ℕ} {o : Out} {g : ℕ → Bool} {b : Bool} → Resume m p e j ρ o → Ok g b o → resumes p e j g b ≡ true
-unfolding resumes
-resumes-full {p = p} r-pos (ok-pass h) = and-both (eq-eqb p p refl) h
-resumes-full (r-cat-in w) (ok-at h) = or-left _ (resumes-full w (ok-at h))
-resumes-full (r-cat-over w u) i = or-left _ (resumes-full w (ok-pass (feasible-full u i)))
-resumes-full {p = p} {j = j} {g = g} {b = b} (r-cat-right {x = x} {y = y} w) i = or-right (resumes p x j g (feasible (p + size x) y g b)) (resumes-full w i)
-resumes-full (r-left w) i = or-left _ (resumes-full w i)
-resumes-full {p = p} {j = j} {g = g} {b = b} (r-right {x = x} w) i = or-right (resumes p x j g b) (resumes-full w i)
-resumes-full (r-branch-in w) i = resumes-full w i
-resumes-full (r-branch-out w) i = resumes-full w i
-resumes-full (r-star-in w) (ok-at h) = resumes-full w (ok-at h)
-resumes-full {p = p} {g = g} (r-star-out {x = x} w) (ok-pass h) = resumes-full w (ok-pass (or-right (leads p x g) h))
-resumes-full {g = g} (r-star-again w u) (ok-at h) = resumes-full w (ok-pass (or-left _ (leads-full g u h)))
-resumes-full (r-plus-in w) (ok-at h) = resumes-full w (ok-at h)
-resumes-full {p = p} {g = g} (r-plus-out {x = x} w) (ok-pass h) = resumes-full w (ok-pass (or-right (leads p x g) h))
-resumes-full {g = g} (r-plus-again w u) (ok-at h) = resumes-full w (ok-pass (or-left _ (leads-full g u h)))
-resumes-full (r-opt-in w) i = resumes-full w i
-resumes-full (r-opt-out w) i = resumes-full w i
-
-cat-some : {m p j : ℕ} {x y : Re} {g : ℕ → Bool} {b : Bool} {ρ : List ℕ} {o : Out} → Resume m p x j ρ o → Ok g (feasible (p + size x) y g b) o → Can (Resume m p (cat x y) j) g b
-cat-some {o = at q} w (ok-at h) = (_, _, r-cat-in w, ok-at h)
-cat-some {o = pass} w (ok-pass h) = let u = feasible-some _ _ _ _ _ h in (_, _, r-cat-over w (u .2), u .3)
-
-close-some : {m p j : ℕ} {x : Re} {g : ℕ → Bool} {b : Bool} {ρ : List ℕ} {o : Out} → Resume (suc m) p x j ρ o → Ok g b o → Can (Resume m p (branch x) j) g b
-close-some {o = at q} w i = (_, _, r-branch-in w, i)
-close-some {o = pass} w i = (_, _, r-branch-out w, i)
-
-opt-some : {m p j : ℕ} {x : Re} {g : ℕ → Bool} {b : Bool} {ρ : List ℕ} {o : Out} → Resume (suc m) p x j ρ o → Ok g b o → Can (Resume m p (opt x) j) g b
-opt-some {o = at q} w i = (_, _, r-opt-in w, i)
-opt-some {o = pass} w i = (_, _, r-opt-out w, i)
-
-star-some : {m p j : ℕ} {x : Re} {g : ℕ → Bool} {b : Bool} {ρ : List ℕ} {o : Out} → Resume (suc m) p x j ρ o → Ok g (leads p x g || b) o → Can (Resume m p (star x) j) g b
-star-some {o = at q} w (ok-at h) = (_, _, r-star-in w, ok-at h)
-star-some {m} {p} {j} {x} {g} {b} {o = pass} w (ok-pass h) = elim (either (leads p x g) b h) [ inl i ↦ again (leads-some (suc m) p x g i) | inr i ↦ (_, _, r-star-out w, ok-pass i) ]
-  where
-    again : Goal (suc m) p x g → Can (Resume m p (star x) j) g b
-    again (ρ, q, u, k) = (_, _, r-star-again w u, ok-at k)
+resumes-full {g = g} w (ok-at h) = or-left _ (reaches-full g w h)
+resumes-full {p = p} {j = j} {e = e} {g = g} w (ok-pass h) = or-right (reaches p e j g) (and-both (ends-full w refl) h)
 
 pub resumes-some : (m p : ℕ) (e : Re) (j : ℕ) (g : ℕ → Bool) (b : Bool) → resumes p e j g b ≡ true → Can (Resume m p e j) g b
-unfolding resumes
-resumes-some m p eps j g b h = absurd (false≢true h)
-resumes-some m p (pos k) j g b h = let i = both (eqb j p) b h in ([], pass, rw (eqb-true j p (i .0)) r-pos, ok-pass (i .1))
-resumes-some m p (cat x y) j g b h = elim (either (resumes p x j g (feasible (p + size x) y g b)) _ h) [ inl i ↦ first (resumes-some m p x j g _ i) | inr i ↦ second (resumes-some _ _ y j g b i) ]
-  where
-    first : Can (Resume m p x j) g (feasible (p + size x) y g b) → Can (Resume m p (cat x y) j) g b
-    first (ρ, o, w, k) = cat-some w k
-
-    second : Can (Resume (m + marks x) (p + size x) y j) g b → Can (Resume m p (cat x y) j) g b
-    second (ρ, o, w, k) = (ρ, o, r-cat-right w, k)
-resumes-some m p (alt x y) j g b h = elim (either (resumes p x j g b) _ h) [ inl i ↦ first (resumes-some m p x j g b i) | inr i ↦ second (resumes-some _ _ y j g b i) ]
-  where
-    first : Can (Resume m p x j) g b → Can (Resume m p (alt x y) j) g b
-    first (ρ, o, w, k) = (ρ, o, r-left w, k)
-
-    second : Can (Resume (m + marks x) (p + size x) y j) g b → Can (Resume m p (alt x y) j) g b
-    second (ρ, o, w, k) = (ρ, o, r-right w, k)
-resumes-some m p (branch x) j g b h = let w = resumes-some (suc m) p x j g b h in close-some (w .2) (w .3)
-resumes-some m p (star x) j g b h = let w = resumes-some (suc m) p x j g _ h in star-some (w .2) (w .3)
-resumes-some m p (plus x) j g b h = let w = resumes-some (suc m) p x j g _ h in let u = star-some (w .2) (w .3) in (_, _, star-plus-go (u .2), u .3)
-resumes-some m p (opt x) j g b h = let w = resumes-some (suc m) p x j g b h in opt-some (w .2) (w .3)
+resumes-some m p e j g b h = elim (either (reaches p e j g) _ h) [
+  | inl i ↦ elim (reaches-some m p e j g i) [ hits w k ↦ (_, _, w, ok-at k) ]
+  | inr i ↦ let k = both (ends p e j) b i in (_, _, ends-some m p e j (k .0) .1, ok-pass (k .1))
+]

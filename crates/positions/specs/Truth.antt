@@ -1,6 +1,6 @@
 -- Truth values.
 use mathlib.Core.Path.{_≡_, refl, sym}
-use mathlib.Core.Bool.{Bool, true, false, _&&_, _||_, and-eq-true-iff}
+use mathlib.Core.Bool.{Bool, true, false, _&&_, _||_, cond, true≢false, and-eq-true-iff}
 use mathlib.Core.Logic.{_⊎_, inl, inr}
 
 pub or-left : {a : Bool} (b : Bool) → a ≡ true → (a || b) ≡ true
@@ -25,3 +25,11 @@ pub alike : (a b : Bool) → (a ≡ true → b ≡ true) → (b ≡ true → a �
 alike true b to from = sym (to refl)
 alike false true to from = from refl
 alike false false to from = refl
+
+pub chosen : (t a b : Bool) → cond t a b ≡ true → (a ≡ true) ⊎ (b ≡ true)
+chosen true a b e = inl e
+chosen false a b e = inr e
+
+pub or-else : (a b : Bool) → (a || b) ≡ true → a ≡ false → b ≡ true
+or-else true b e n = absurd (true≢false n)
+or-else false b e n = e

@@ -1,0 +1,202 @@
+/*
+ * The scheduler's side of the call, as a test.
+ *
+ *     host --fixed         holds the call to fixed cases
+ *     host < batch         prints the verdict of each case of a batch, one a line
+ *
+ * A batch has for each case the length of the pattern in four bytes, the lowest first, the pattern, the length of the text in the same way,
+ * and the text.
+ */
+#include "dimmhalt.h"
+
+#include <stdio.h>
+#include <stdlib.h>
+#include <string.h>
+
+/* Bytes on loan, in a block of just their length, so that a reader past the end leaves the block. */
+struct row {
+    unsigned char *bytes;
+    size_t length;
+};
+
+static void give_up(const char *why)
+{
+    fprintf(stderr, "host: %s\n", why);
+    exit(2);
+}
+
+/* A block of `length` bytes; of one byte where there is nothing to hold, since the call wants a pointer that is not null. */
+static struct row new_row(size_t length)
+{
+    struct row row;
+    row.length = length;
+    row.bytes = malloc(length > 0 ? length : 1);
+    if (row.bytes == NULL) {
+        give_up("no memory");
+    }
+    return row;
+}
+
+static unsigned int verdict(struct row pattern, struct row text)
+{
+    return dimmhalt_verdict(pattern.bytes, pattern.length, text.bytes, text.length);
+}
+
+/* Reads a length. Answers 0 where the input has ended before it. */
+static int read_length(size_t *length)
+{
+    unsigned char bytes[4];
+    size_t got = fread(bytes, 1, sizeof bytes, stdin);
+    if (got == 0) {
+        return 0;
+    }
+    if (got != sizeof bytes) {
+        give_up("the batch breaks off in a length");
+    }
+    *length = (size_t)bytes[0] | (size_t)bytes[1] << 8 | (size_t)bytes[2] << 16 | (size_t)bytes[3] << 24;
+    return 1;
+}
+
+static struct row read_row(size_t length)
+{
+    struct row row = new_row(length);
+    if (fread(row.bytes, 1, length, stdin) != length) {
+        give_up("the batch breaks off in a pattern or a text");
+    }
+    return row;
+}
+
+static int run_batch(void)
+{
+    size_t length;
+    while (read_length(&length)) {
+        struct row pattern = read_row(length);
+        struct row text;
+        if (!read_length(&length)) {
+            give_up("the batch breaks off after a pattern");
+        }
+        text = read_row(length);
+        printf("%u\n", verdict(pattern, text));
+        free(pattern.bytes);
+        free(text.bytes);
+    }
+    if (ferror(stdin) || fflush(stdout) != 0) {
+        give_up("input or output failed");
+    }
+    return 0;
+}
+
+/* `times` of `piece`, then `inner`, then `times` of `after`. */
+static struct row wrapped(size_t times, const char *piece, const char *inner, const char *after)
+{
+    struct row row = new_row(times * (strlen(piece) + strlen(after)) + strlen(inner));
+    unsigned char *at = row.bytes;
+    size_t turn;
+    for (turn = 0; turn < times; turn++) {
+        memcpy(at, piece, strlen(piece));
+        at += strlen(piece);
+    }
+    memcpy(at, inner, strlen(inner));
+    at += strlen(inner);
+    for (turn = 0; turn < times; turn++) {
+        memcpy(at, after, strlen(after));
+        at += strlen(after);
+    }
+    return row;
+}
+
+static struct row bytes_of(const char *bytes, size_t length)
+{
+    struct row row = new_row(length);
+    memcpy(row.bytes, bytes, length);
+    return row;
+}
+
+static struct row string(const char *bytes)
+{
+    return bytes_of(bytes, strlen(bytes));
+}
+
+static unsigned int passed;
+static unsigned int failed;
+
+static void hold(const char *what, struct row pattern, struct row text, unsigned int wanted)
+{
+    unsigned int got = verdict(pattern, text);
+    if (got == wanted) {
+        passed++;
+    } else {
+        failed++;
+        printf("host: %s: got %u, wanted %u\n", what, got, wanted);
+    }
+    free(pattern.bytes);
+    free(text.bytes);
+}
+
+static void hold_readings(void)
+{
+    hold("() and nothing", string("()"), string(""), DIMMHALT_ONE_TREE);
+    hold("a* and nothing", string("a*"), string(""), DIMMHALT_ONE_TREE);
+    hold("()+ and nothing", string("()+"), string(""), DIMMHALT_ONE_TREE);
+    hold("a+ and aa", string("a+"), string("aa"), DIMMHALT_ONE_TREE);
+    hold("(a*)* and a", string("(a*)*"), string("a"), DIMMHALT_ONE_TREE);
+    hold("(a*)* and aa", string("(a*)*"), string("aa"), DIMMHALT_SEVERAL_TREES);
+    hold("(a*)+ and nothing", string("(a*)+"), string(""), DIMMHALT_ONE_TREE);
+    hold("(a*)? and nothing", string("(a*)?"), string(""), DIMMHALT_ONE_TREE);
+    hold("a|a and a", string("a|a"), string("a"), DIMMHALT_SEVERAL_TREES);
+    hold("(a|())+ and a", string("(a|())+"), string("a"), DIMMHALT_ONE_TREE);
+    hold("(a|ab)b? and ab", string("(a|ab)b?"), string("ab"), DIMMHALT_SEVERAL_TREES);
+    hold("a.c and axd", string("a.c"), string("axd"), DIMMHALT_NO_TREE);
+    hold("a.c and a, 10, c", string("a.c"), string("a\nc"), DIMMHALT_ONE_TREE);
+    hold("bytes 0, 10 and 255", bytes_of("\0\n[\377]", 5), bytes_of("\0\n\377", 3), DIMMHALT_ONE_TREE);
+}
+
+static void hold_limits(void)
+{
+    hold("no pattern", string(""), string(""), DIMMHALT_NOT_A_PATTERN);
+    hold("a**", string("a**"), string("a"), DIMMHALT_NOT_A_PATTERN);
+    hold("() 256 times", wrapped(256, "()", "", ""), string(""), DIMMHALT_ONE_TREE);
+    hold("() 257 times", wrapped(257, "()", "", ""), string(""), DIMMHALT_PATTERN_TOO_LONG);
+    hold("() 257 times and 4,097 letters", wrapped(257, "()", "", ""), wrapped(4097, "a", "", ""), DIMMHALT_PATTERN_TOO_LONG);
+    hold("4,096 letters", string("a*"), wrapped(4096, "a", "", ""), DIMMHALT_ONE_TREE);
+    hold("4,097 letters", string("a*"), wrapped(4097, "a", "", ""), DIMMHALT_TEXT_TOO_LONG);
+    hold("4,097 letters and no pattern", string("("), wrapped(4097, "a", "", ""), DIMMHALT_TEXT_TOO_LONG);
+    hold("4,096 letters in many ways", string("(a|a)*"), wrapped(4096, "a", "", ""), DIMMHALT_SEVERAL_TREES);
+    hold("a million bytes of pattern", wrapped(1000000, "a", "", ""), string("a"), DIMMHALT_PATTERN_TOO_LONG);
+    hold("a million bytes of text", string("a*"), wrapped(1000000, "a", "", ""), DIMMHALT_TEXT_TOO_LONG);
+    hold("64 groups", wrapped(64, "(", "a", ")"), string("a"), DIMMHALT_ONE_TREE);
+    hold("65 groups", wrapped(65, "(", "a", ")"), string("a"), DIMMHALT_NESTED_TOO_DEEP);
+    hold("64 positions", wrapped(64, "a", "", ""), wrapped(64, "a", "", ""), DIMMHALT_ONE_TREE);
+    hold("65 positions", wrapped(65, "a", "", ""), wrapped(65, "a", "", ""), DIMMHALT_TOO_MANY_POSITIONS);
+    hold("64 marks", wrapped(63, "(", "a?", ")?"), string("a"), DIMMHALT_ONE_TREE);
+    hold("65 marks", wrapped(64, "(", "a?", ")?"), string("a"), DIMMHALT_TOO_MANY_MARKS);
+}
+
+/* One call after another gives what it gave before: nothing is kept. */
+static void hold_again(void)
+{
+    hold("a refused pattern", string("("), string("a"), DIMMHALT_NOT_A_PATTERN);
+    hold("a good one after it", string("a"), string("a"), DIMMHALT_ONE_TREE);
+    hold("the refused one again", string("("), string("a"), DIMMHALT_NOT_A_PATTERN);
+}
+
+static int run_fixed(void)
+{
+    hold_readings();
+    hold_limits();
+    hold_again();
+    printf("host: %u passed, %u failed\n", passed, failed);
+    return failed == 0 ? 0 : 1;
+}
+
+int main(int count, char **words)
+{
+    if (count == 1) {
+        return run_batch();
+    }
+    if (count == 2 && strcmp(words[1], "--fixed") == 0) {
+        return run_fixed();
+    }
+    fprintf(stderr, "usage: host [--fixed] < batch\n");
+    return 64;
+}
