@@ -1,83 +1,27 @@
 -- What a caller may rely on of an answer. Assumes nothing.
-use mathlib.Core.Path.{_≡_, refl, sym, _∙_, ap, ap₂}
-use mathlib.Core.Bool.{Bool, true, false, _&&_, _||_, or-false}
-use mathlib.Core.List.{List, _++_}
-use Prim.Native.Nat.{ℕ, zero, suc, _+_, _-_, _*_, _/_, _%_, _≤_, _<_}
+use mathlib.Core.Path.{_≡_, refl, ap}
+use mathlib.Core.Bool.{Bool, true, false, _&&_}
+use mathlib.Core.List.{List}
+use Prim.Native.Nat.{ℕ, _-_, _≤_, _<_}
 use native.Mathlib.Omega.{arith}
-use native.Mathlib.Decide.{decLt}
-use borrow.Author.Tests.{ltb-true, ltb-false, eq-eqb}
+use borrow.Author.Tests.{ltb-true, ltb-false}
 use lib.Dec.{ltb}
-use lib.ListN.{length, getD, length-append, length-replicate}
-use Rattle.meaning.specs.Expression.{Re, eps, pos, cat, alt, branch, star, plus, opt, size, marks}
+use lib.ListN.{length, length-append, length-replicate}
+use Rattle.meaning.specs.Expression.{Re, size, marks}
 use Rattle.meaning.specs.ReadPattern as meaning
-use Rattle.meaning.specs.ReadPattern.{nodes, kinds, args, words, word, padded, read-pattern}
+use Rattle.meaning.specs.ReadPattern.{nodes, kinds, args, words, padded, read-pattern}
 use Rattle.meaning.specs.Limits.{pattern-limit, position-limit, mark-limit}
 use Rattle.meaning.specs.Promise.{Read, long-pattern, refused, accepted, Refused, not-a-pattern, nested, positions, over-marks, Accepted}
-use Rattle.grammar.specs.Bounds.{pattern-small}
-use Rattle.positions.specs.Places.{In, placed}
-use Rattle.positions.specs.Tests.{reads, reads-some}
-use Rattle.laws.specs.Holds.{Holds, Stands, stands-left, stands-right, stands-at, padded-stands, read-pattern-holds, kinds-length, args-length}
-use Rattle.bits.specs.Bit.{bit}
-use Rattle.bits.proofs.Bits.{bit-binary}
+use Rattle.positions.specs.Tests.{reads}
+use Rattle.laws.specs.Holds.{Holds, padded-stands, kinds-length, args-length}
+use Rattle.laws.specs.Accepted.{accepted-nodes, accepted-holds}
 use Rattle.pattern.specs.Answers.{number-of, value-of, parts-of}
 use Rattle.pattern.specs.declared.Reading.the-variants as readings
 use Rattle.pattern.specs.declared.ReadPattern.{ReadPattern}
 use Rattle.pattern.specs.declared.Answer.{Answer}
 use Rattle.pattern.proofs.Rows.{length-words}
+use Rattle.pattern.proofs.ClassWords.{in-class, reads-out, reads-its-words}
 use Rattle.pattern.proofs.Unique.{Answers}
-
--- ---- the classes of the positions
-
--- byte b is in the words of position q
-abbrev pub in-class : List ℕ → ℕ → ℕ → Bool
-in-class class q b = bit 64 (getD class (4 * q + b / 64) 0) (b % 64)
-
--- no position outside e reads
-reads-out : (p : ℕ) (e : Re) (q b : ℕ) → (In p e q → ⊥) → reads p e q b ≡ false
-reads-out p e q b h = go (reads p e q b) refl
-  where
-    go : (t : Bool) → reads p e q b ≡ t → t ≡ false
-    go true r = absurd (h (placed (reads-some p e q b r)))
-    go false r = refl
-
--- the words of c say of each byte whether c holds it
-words-at : (c : ℕ → Bool) (i : ℕ) → i < 4 → getD (words (pos c)) i 0 ≡ word c i
-unfolding words
-words-at c zero l = refl
-words-at c (suc zero) l = refl
-words-at c (suc (suc zero)) l = refl
-words-at c (suc (suc (suc zero))) l = refl
-words-at c (suc (suc (suc (suc i)))) l = absurd (omega arith)
-
-words-say : (c : ℕ → Bool) (b : ℕ) → b < 256 → bit 64 (getD (words (pos c)) (b / 64) 0) (b % 64) ≡ c b
-words-say c b l =
-    let e : 64 * (b / 64) + b % 64 ≡ b = omega arith in
-    ap (λ (x : ℕ). bit 64 x (b % 64)) (words-at c (b / 64) (omega arith)) ∙ bit-binary 64 (λ j. c (64 * (b / 64) + j)) (b % 64) (omega arith) ∙ ap c e
-
-module _ (ws : List ℕ) (b : ℕ) (l : b < 256) where
-  -- two parts, of which q is in one
-  joint : (p : ℕ) (x y : Re) (q : ℕ) → Stands (words x ++ words y) ws (4 * p) → (p ≤ q) × (q < p + (size x + size y))
-      → (Stands (words x) ws (4 * p) → In p x q → reads p x q b ≡ in-class ws q b)
-      → (Stands (words y) ws (4 * (p + size x)) → In (p + size x) y q → reads (p + size x) y q b ≡ in-class ws q b)
-      → (reads p x q b || reads (p + size x) y q b) ≡ in-class ws q b
-  joint p x y q h i f g = elim (decLt q (p + size x)) [
-    | yes k ↦ ap₂ (λ (s t : Bool). s || t) (f (stands-left (words x) (words y) h) (i .0, k)) (reads-out (p + size x) y q b (λ o. omega (arith, o, k))) ∙ or-false (in-class ws q b)
-    | no k ↦ ap₂ (λ (s t : Bool). s || t) (reads-out p x q b (λ o. k (o .1)))
-        (g (stands-at (4 * (p + size x)) (stands-right (words x) (words y) h) (omega (arith, length-words x))) (omega arith, omega (arith, i)))
-  ]
-
-  reads-in : (p : ℕ) (e : Re) (q : ℕ) → Stands (words e) ws (4 * p) → In p e q → reads p e q b ≡ in-class ws q b
-  unfolding reads size words
-  reads-in p eps q h i = absurd (omega (arith, i))
-  reads-in p (pos c) q h i =
-      let z : q ≡ p = omega (arith, i) in
-      rw (eq-eqb q p z, z) (sym (ap (λ (x : ℕ). bit 64 x (b % 64)) (h .here (b / 64) (omega arith)) ∙ words-say c b l))
-  reads-in p (cat x y) q h i = joint p x y q h i (reads-in p x q) (reads-in (p + size x) y q)
-  reads-in p (alt x y) q h i = joint p x y q h i (reads-in p x q) (reads-in (p + size x) y q)
-  reads-in p (branch x) q h i = reads-in p x q h i
-  reads-in p (star x) q h i = reads-in p x q h i
-  reads-in p (plus x) q h i = reads-in p x q h i
-  reads-in p (opt x) q h i = reads-in p x q h i
 
 -- ---- an accepted pattern
 
@@ -102,7 +46,7 @@ padded-length n l h = simp (length-append, length-replicate) (omega arith)
 pub holding : {pat : List ℕ} {e : Re} (P : ReadPattern) → Accepted pat e → parts-of P ≡ read-pattern e → Holding P e
 unfolding read-pattern
 holding {pat} {e} P a q = record {
-  holds = rw (ks, gs, ns) (read-pattern-holds e (omega (arith, few)));
+  holds = rw (ks, gs, ns) (accepted-holds a);
   nodes-are = ns;
   positions-are = ps;
   marks-are = ap (λ (r : meaning.ReadPattern). r .marks) q;
@@ -116,7 +60,7 @@ holding {pat} {e} P a q = record {
 }
   where
     few : nodes e < 1024
-    few = omega (arith, pattern-small (a .denotes), a .short)
+    few = accepted-nodes a
 
     fit : length (words e) ≤ 256
     fit = omega (arith, a .few-positions, length-words e)
@@ -140,7 +84,7 @@ holding {pat} {e} P a q = record {
     classed r b l = rw (ws, ps) (go (ltb r (size e)) refl)
       where
         go : (t : Bool) → ltb r (size e) ≡ t → reads 0 e r b ≡ (t && in-class (padded 256 (words e)) r b)
-        go true h = reads-in (padded 256 (words e)) b l 0 e r (padded-stands 256 (words e) fit) (omega arith, omega (arith, ltb-true r (size e) h))
+        go true h = reads-its-words (padded 256 (words e)) b l 0 e r (padded-stands 256 (words e) fit) (omega arith, omega (arith, ltb-true r (size e) h))
         go false h = reads-out 0 e r b (λ o. omega (arith, o, ltb-false r (size e) h))
 
 -- ---- an answer

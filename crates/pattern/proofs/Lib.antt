@@ -6,4 +6,5 @@ pub mod Steps
 pub mod Marks
 pub mod Whole
 pub mod Unique
+pub mod ClassWords
 pub mod Held
