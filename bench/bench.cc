@@ -48,7 +48,7 @@ struct Dice {  // the same row of numbers in each run
 // Rows of a nightly dump: a table, how many records, and what became of it. As many as fit.
 string rows(size_t n) {
     static const char *const tables[] = {"customers", "orders",  "invoices", "stock",  "prices",  "ledger",
-                                         "audit",     "returns", "sessions", "labels", "batches", "carriers"};
+                                         "audit",     "returns", "receipts", "labels", "batches", "carriers"};
     Dice dice;
     string s;
     for (;;) {
@@ -319,7 +319,8 @@ vector<Measured> measure(const Engine *engines, size_t count, const Work &w, int
         out[k].wrong = engines[k].check(w);
         if (out[k].wrong != "") {
             if (k == 0 && out[k].wrong != not_built) {
-                fprintf(stderr, "bench: OUR CALL FAILS on %s, %zu bytes against %zu: %s\n", w.name.c_str(), w.text.size(), w.pattern.size(), out[k].wrong.c_str());
+                fprintf(stderr, "bench: OUR CALL FAILS on %s, %zu bytes against %zu: %s\n", w.name.c_str(), w.text.size(), w.pattern.size(),
+                        out[k].wrong.c_str());
                 wrong_answer = true;
             }
             continue;

@@ -66,6 +66,12 @@ def work_tables(r):
         times.append(start + [cost(got[e]) for e in got])
         each.append(start + [cost(got[e], got[e]["text"]) for e in got])
         ratios.append(start + [ratio(got[p], got["ours"]) for p in PEERS])
+    means = []
+    for p in PEERS:
+        pairs = [(r.one("work", work=w, engine=p)["ns"], r.one("work", work=w, engine="ours")["ns"]) for w in r.values("work", "work")]
+        logs = [math.log(a / b) for a, b in pairs if a and b]
+        means.append(f"{math.exp(sum(logs) / len(logs)):.2f}" if logs else "-")
+    ratios.append(["geometric mean", ""] + means)
     engines = [TITLE[e] for e in ["ours"] + PEERS]
     yield "Time of a call, ns", head + engines, times, []
     yield "The same for a byte of the text, ns", head + engines, each, []
@@ -76,7 +82,8 @@ def verdict_table(r):
     rows = []
     for w in r.values("verdict", "work"):
         ours, peer = (r.one("verdict", work=w, engine=e) for e in ("verdict", "re2-yes-no"))
-        rows.append([f"{w} {r.about[w]['name']}", f"{peer['text']:,}", cost(ours), cost(ours, ours["text"]), cost(peer), cost(peer, peer["text"]), ratio(peer, ours)])
+        times = [cost(ours), cost(ours, ours["text"]), cost(peer), cost(peer, peer["text"])]
+        rows.append([f"{w} {r.about[w]['name']}", f"{peer['text']:,}"] + times + [ratio(peer, ours)])
     head = ["work", "bytes", "Dimmhalt verdict, ns", "ns/byte", "RE2 yes or no, ns", "ns/byte", "ratio"]
     yield "The scheduler's call (none, one or more trees) beside RE2's yes or no without captures", head, rows, []
 
@@ -94,15 +101,17 @@ def growth_tables(r):
             times = ours[-1] / min(ours[:-1])
             flat = "flat" if times <= RISES else "IT RISES"
             notes = [f"Ours: a byte of the longest text costs {times:.2f} times what it costs in the cheapest shorter one: {flat}."]
-        yield f"Growth with the text, work {w} {r.about[w]['name']}: ns for a byte of the text", ["text bytes"] + [TITLE[e] for e in ["ours"] + PEERS], rows, notes
+        title = f"Growth with the text, work {w} {r.about[w]['name']}: ns for a byte of the text"
+        yield title, ["text bytes"] + [TITLE[e] for e in ["ours"] + PEERS], rows, notes
     for w, per in (("long", "text"), ("short", "pattern")):
         rows, n = [], 0
         for p in r.values("pattern", "pattern", work=w):
             got = {e: r.one("pattern", work=w, pattern=p, engine=e) for e in ["ours"] + PEERS}
             n = got["ours"]["text"]
             rows.append([f"{p:,}", f"{p // 8}"] + [cost(got[e], got[e][per]) for e in got])
-        yield (f"Growth with the pattern, text of {n:,} bytes: ns for a byte of the {per}", ["pattern bytes", "positions"] + [TITLE[e] for e in ["ours"] + PEERS], rows,
-               ["The pattern is one group of classes with `*`; a turn reads as many letters as there are positions."])
+        title = f"Growth with the pattern, text of {n:,} bytes: ns for a byte of the {per}"
+        notes = ["The pattern is one group of classes with `*`; a turn reads as many letters as there are positions."]
+        yield title, ["pattern bytes", "positions"] + [TITLE[e] for e in ["ours"] + PEERS], rows, notes
 
 
 def tables(r):
@@ -139,6 +148,8 @@ def text(r):
 
 
 def markdown(r):
+    print("# Performance\n")
+    print("Measured by `bench/run`, which says with `--help` what it needs; this page is what `bench/run --markdown` prints of it.\n")
     for k in ("date", "machine", "peers", "ours", "way", "note"):
         if k in r.run:
             print(f"- {k}: {r.run[k]}")
@@ -155,6 +166,7 @@ def markdown(r):
             print("| " + " | ".join(x) + " |")
         for n in notes:
             print(f"\n{n}")
+    print("\n![Time of a call for each work](../bench/works.svg)\n\n![Growth with the text and with the pattern](../bench/growth.svg)")
 
 
 # ---- plots
@@ -162,7 +174,10 @@ def markdown(r):
 
 class Svg:
     def __init__(self, wide, high):
-        self.parts = [f'<svg xmlns="http://www.w3.org/2000/svg" viewBox="0 0 {wide} {high}" font-family="sans-serif" font-size="12">', f'<rect width="{wide}" height="{high}" fill="#ffffff"/>']
+        self.parts = [
+            f'<svg xmlns="http://www.w3.org/2000/svg" viewBox="0 0 {wide} {high}" font-family="sans-serif" font-size="12">',
+            f'<rect width="{wide}" height="{high}" fill="#ffffff"/>',
+        ]
 
     def text(self, x, y, s, anchor="start", size=12, colour="#222222"):
         self.parts.append(f'<text x="{x:.1f}" y="{y:.1f}" text-anchor="{anchor}" font-size="{size}" fill="{colour}">{escape(s)}</text>')
@@ -231,13 +246,15 @@ def bars(r, path):
 
 def lines(r, path):
     """What a byte costs as the text and the pattern grow; both scales in powers."""
-    panels = [("text", w, "text", "text", f"work {w} {r.about[w]['name']}: ns for a byte of the text", "bytes of the text") for w in r.values("text", "work")]
-    panels += [("pattern", "long", "pattern", "text", "long text: ns for a byte of the text", "bytes of the pattern"), ("pattern", "short", "pattern", "pattern", "text of 64 bytes: ns for a byte of the pattern", "bytes of the pattern")]
+    # kind, work, what grows, by what the time is divided, title
+    panels = [("text", w, "text", "text", f"work {w} {r.about[w]['name']}: ns for a byte of the text") for w in r.values("text", "work")]
+    panels.append(("pattern", "long", "pattern", "text", "text of 4,096 bytes: ns for a byte of the text"))
+    panels.append(("pattern", "short", "pattern", "pattern", "text of 64 bytes: ns for a byte of the pattern"))
     engines = [e for e in ["ours"] + PEERS if any(x["ns"] for x in r.of("text", engine=e))]
     svg = Svg(940, 780)
     heading(svg, r, "Growth; less is better")
     legend(svg, 60, 84, engines)
-    for i, (kind, work, along, per, title, below) in enumerate(panels):
+    for i, (kind, work, along, per, title) in enumerate(panels):
         left, top = 70 + i % 2 * 450, 130 + i // 2 * 330
         wide, tall = 370, 230
         series = {e: [(x[along], x["ns"] / x[per]) for x in r.of(kind, work=work, engine=e) if x["ns"]] for e in engines}
@@ -254,7 +271,7 @@ def lines(r, path):
             svg.text(left - 8, y(10.0**d) + 4, f"{10.0**d:g}", "end")
         for v in sorted({v for v, _ in every}):
             svg.text(x(v), top + tall + 16, str(v), "middle", 10)
-        svg.text(left + wide / 2, top + tall + 34, below, "middle", 11, "#666666")
+        svg.text(left + wide / 2, top + tall + 34, f"bytes of the {along}", "middle", 11, "#666666")
         for e in reversed(engines):
             svg.path([(x(a), y(b)) for a, b in series[e]], COLOUR[e], 2.5 if e == "ours" else 1.3)
     svg.write(path)
