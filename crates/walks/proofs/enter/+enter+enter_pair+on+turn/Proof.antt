@@ -1,0 +1,248 @@
+-- `walks::enter::enter`, `walks::enter::enter_pair`, `walks::enter::on`, `walks::enter::turn`: the contracts are met, since the node number falls. Assumes nothing.
+use mathlib.Core.Path.{refl, ap, _∙_}
+use Prim.Native.Nat.{_+_, _*_}
+use native.Mathlib.Omega.{arith}
+use Rattle.walks.specs.Steps.{cursor}
+use Rattle.walks.proofs.Parts.{above}
+use Rattle.walks.proofs.Looks.{scanned-to}
+use Rattle.walks.proofs.Entering.{ready-mark, ready-put, ready-part, ready-close, ready-left, ready-alt, ready-on, enters-eps, enters-pos, enters-loop, enters-turn, enters-cat, enters-left, enters-right, turns-in, turns-none, on-passed, on-stopped}
+use Prim.Native.Nat.{ℕ, _<_}
+use borrow.Fn.Kinds.{In}
+use borrow.Fn.PlainCycle.{Measures, is, falls, and}
+use Rattle.walks.proofs.enter.enter.Reads as enter
+use Rattle.walks.proofs.enter.enter.Kinds as enter-kinds
+use Rattle.walks.proofs.enter.+enter+enter_pair+on+turn.Lts-enter as enter-lts
+use Rattle.walks.proofs.enter.enter_pair.Reads as enter-pair
+use Rattle.walks.proofs.enter.enter_pair.Kinds as enter-pair-kinds
+use Rattle.walks.proofs.enter.+enter+enter_pair+on+turn.Lts-enter_pair as enter-pair-lts
+use Rattle.walks.proofs.enter.on.Reads as on
+use Rattle.walks.proofs.enter.on.Kinds as on-kinds
+use Rattle.walks.proofs.enter.+enter+enter_pair+on+turn.Lts-on as on-lts
+use Rattle.walks.proofs.enter.turn.Reads as turn
+use Rattle.walks.proofs.enter.turn.Kinds as turn-kinds
+use Rattle.walks.proofs.enter.+enter+enter_pair+on+turn.Lts-turn as turn-lts
+use Rattle.walks.proofs.look.goes.Reads as goes-reads
+use Rattle.walks.proofs.look.open_to.Reads as open-to-reads
+use Rattle.walks.proofs.look.repeats.Reads as repeats-reads
+use Rattle.walks.proofs.node.wide.Reads as wide-reads
+use Rattle.walks.proofs.step.also.Reads as also-reads
+use Rattle.walks.proofs.step.close.Reads as close-reads
+use Rattle.walks.proofs.step.put.Reads as put-reads
+use Rattle.walks.proofs.enter.+enter+enter_pair+on+turn.{statement}
+use Rattle.walks.proofs.enter.+enter+enter_pair+on+turn.Tie.{close}
+
+abbrev μ-enter : Measures 2 enter-kinds.ps ℕ
+μ-enter κs a = 3 * a .1 .1 .1 .1 .0 + 1
+
+abbrev μ-enter-pair : Measures 2 enter-pair-kinds.ps ℕ
+μ-enter-pair κs a = 3 * a .1 .1 .1 .1 .0
+
+abbrev μ-on : Measures 2 on-kinds.ps ℕ
+μ-on κs a = 3 * a .1 .1 .1 .1 .0 + 2
+
+abbrev μ-turn : Measures 2 turn-kinds.ps ℕ
+μ-turn κs a = 3 * a .1 .1 .1 .1 .0 + 2
+
+abbrev enter-at : ℕ → In 2 enter-kinds.ps
+enter-at t = and 2 enter-kinds.ps (is 2 enter-kinds.ps μ-enter t) enter.Pre
+
+abbrev enter-below : ℕ → In 2 enter-kinds.ps
+enter-below t = and 2 enter-kinds.ps (falls 2 enter-kinds.ps _<_ μ-enter t) enter.Pre
+
+abbrev enter-pair-at : ℕ → In 2 enter-pair-kinds.ps
+enter-pair-at t = and 2 enter-pair-kinds.ps (is 2 enter-pair-kinds.ps μ-enter-pair t) enter-pair.Pre
+
+abbrev enter-pair-below : ℕ → In 2 enter-pair-kinds.ps
+enter-pair-below t = and 2 enter-pair-kinds.ps (falls 2 enter-pair-kinds.ps _<_ μ-enter-pair t) enter-pair.Pre
+
+abbrev on-at : ℕ → In 2 on-kinds.ps
+on-at t = and 2 on-kinds.ps (is 2 on-kinds.ps μ-on t) on.Pre
+
+abbrev on-below : ℕ → In 2 on-kinds.ps
+on-below t = and 2 on-kinds.ps (falls 2 on-kinds.ps _<_ μ-on t) on.Pre
+
+abbrev turn-at : ℕ → In 2 turn-kinds.ps
+turn-at t = and 2 turn-kinds.ps (is 2 turn-kinds.ps μ-turn t) turn.Pre
+
+abbrev turn-below : ℕ → In 2 turn-kinds.ps
+turn-below t = and 2 turn-kinds.ps (falls 2 turn-kinds.ps _<_ μ-turn t) turn.Pre
+
+abbrev enter-claims : ℕ → enter-lts.Claims
+enter-claims t = (wide-reads.Asked, wide-reads.Learnt, enter-pair-below t, enter-pair.Post, repeats-reads.Asked, repeats-reads.Learnt, turn-below t, turn.Post, put-reads.Asked, put-reads.Learnt, enter-below t, enter.Post, close-reads.Asked, close-reads.Learnt)
+
+abbrev enter-pair-claims : ℕ → enter-pair-lts.Claims
+enter-pair-claims t = (wide-reads.Asked, wide-reads.Learnt, open-to-reads.Asked, open-to-reads.Learnt, enter-below t, enter.Post, on-below t, on.Post, also-reads.Asked, also-reads.Learnt)
+
+abbrev on-claims : ℕ → on-lts.Claims
+on-claims t = (enter-below t, enter.Post, also-reads.Asked, also-reads.Learnt)
+
+abbrev turn-claims : ℕ → turn-lts.Claims
+turn-claims t = (goes-reads.Asked, goes-reads.Learnt, put-reads.Asked, put-reads.Learnt, enter-below t, enter.Post, also-reads.Asked, also-reads.Learnt)
+
+module _ (t : ℕ) where
+  enter-element-copy-out-k : enter-lts.Need-element-copy-out-k (enter-claims t) (enter-at t) enter.Post
+  enter-element-copy-out-k c = c .before .pre .1 .0 .within
+
+  enter-returns : enter-lts.Need-returns (enter-claims t) (enter-at t) enter.Post
+  enter-returns c = enters-eps _ _ (c .before .before .before .before .pre .1 .1) (c .before .if1 .taken) (c .if2 .taken)
+
+  enter-mul-wide : enter-lts.Need-mul-wide (enter-claims t) (enter-at t) enter.Post
+  enter-mul-wide c = omega (arith, c .before .before .before .before .pre .1 .0 .within)
+
+  enter-element-copy-out-wide : enter-lts.Need-element-copy-out-wide (enter-claims t) (enter-at t) enter.Post
+  enter-element-copy-out-wide c = c .before .before .before .before .pre .1 .0 .within
+
+  enter-wide-requires : enter-lts.Need-wide-requires (enter-claims t) (enter-at t) enter.Post
+  enter-wide-requires c κs = tt
+
+  enter-returns-2 : enter-lts.Need-returns-2 (enter-claims t) (enter-at t) enter.Post
+  enter-returns-2 c = enters-pos _ _ (c .before .before .before .before .before .before .pre .1 .1) _ (c .before .before .before .if1 .taken) (c .before .before .if2 .left) (c .wide .ensures)
+
+  enter-enter-pair-requires : enter-lts.Need-enter-pair-requires (enter-claims t) (enter-at t) enter.Post
+  enter-enter-pair-requires c κs = let s = c .before .before .before .before .before .pre in (omega (arith, s .0), (s .1 .0, (s .1 .1, (c .before .before .if1 .left, c .before .if3 .taken))))
+
+  enter-same-length : enter-lts.Need-same-length (enter-claims t) (enter-at t) enter.Post
+  enter-same-length c = c .before .before .enter-pair .kept .1 .1 .1 .1 .1 .1 .1 .0
+
+  enter-returns-3 : enter-lts.Need-returns-3 (enter-claims t) (enter-at t) enter.Post
+  enter-returns-3 c = c .before .before .enter-pair .ensures
+
+  enter-sub-part : enter-lts.Need-sub-part (enter-claims t) (enter-at t) enter.Post
+  enter-sub-part c = omega (arith, above (c .before .if1 .left) (c .before .before .before .before .pre .1 .0 .holds))
+
+  enter-mul-mark : enter-lts.Need-mul-mark (enter-claims t) (enter-at t) enter.Post
+  enter-mul-mark c = omega (arith, c .before .before .before .before .pre .1 .0 .within)
+
+  enter-element-copy-out-mark : enter-lts.Need-element-copy-out-mark (enter-claims t) (enter-at t) enter.Post
+  enter-element-copy-out-mark c = c .before .before .before .before .pre .1 .0 .within
+
+  enter-repeats-requires : enter-lts.Need-repeats-requires (enter-claims t) (enter-at t) enter.Post
+  enter-repeats-requires c κs = tt
+
+  enter-turn-requires : enter-lts.Need-turn-requires (enter-claims t) (enter-at t) enter.Post
+  enter-turn-requires c κs = let s = c .before .before .before .before .before .before .before .before .pre in (omega (arith, s .0, above (c .before .before .before .before .before .if1 .left) (s .1 .0 .holds)), (ready-part (s .1 .0) (c .before .before .before .before .if3 .left) _ refl, scanned-to (s .1 .1) (omega arith)))
+
+  enter-same-length-2 : enter-lts.Need-same-length-2 (enter-claims t) (enter-at t) enter.Post
+  enter-same-length-2 c = c .before .before .turn .kept .1 .1 .1 .1 .1 .1 .1 .1 .0
+
+  enter-returns-4 : enter-lts.Need-returns-4 (enter-claims t) (enter-at t) enter.Post
+  enter-returns-4 c = enters-loop _ _ (c .before .before .before .before .before .before .before .before .before .before .before .pre .1 .1) (c .before .before .before .before .before .before .before .if3 .left) (c .before .before .before .before .before .repeats .ensures) (c .before .before .before .before .if4 .taken) (c .before .before .turn .ensures)
+
+  enter-put-requires : enter-lts.Need-put-requires (enter-claims t) (enter-at t) enter.Post
+  enter-put-requires c κs = ready-put (c .before .before .before .before .before .before .before .before .pre .1 .0) (c .before .before .before .before .if3 .left)
+
+  enter-enter-requires : enter-lts.Need-enter-requires (enter-claims t) (enter-at t) enter.Post
+  enter-enter-requires c κs = let s = c .before .before .before .before .before .before .before .before .before .before .before .before .pre in (omega (arith, s .0, above (c .before .before .before .before .before .before .before .before .before .if1 .left) (s .1 .0 .holds)), (ready-part (s .1 .0) (c .before .before .before .before .before .before .before .before .if3 .left) _ (c .before .before .before .put .ensures .0), scanned-to (s .1 .1) (omega arith)))
+
+  enter-close-requires : enter-lts.Need-close-requires (enter-claims t) (enter-at t) enter.Post
+  enter-close-requires c κs = (ready-close (c .before .before .before .before .before .before .before .before .before .before .before .before .before .before .before .before .pre .1 .0) (c .before .before .before .before .before .before .before .before .before .before .before .before .if3 .left) (c .before .before .before .before .before .before .before .put .ensures .0) (c .before .before .before .enter .ensures), ready-mark (c .before .before .before .before .before .before .before .before .before .before .before .before .before .before .before .before .pre .1 .0) (c .before .before .before .before .before .before .before .before .before .before .before .before .if3 .left))
+
+  enter-same-length-3 : enter-lts.Need-same-length-3 (enter-claims t) (enter-at t) enter.Post
+  enter-same-length-3 c = c .before .before .close .kept .0 ∙ c .before .before .before .before .before .before .enter .kept .1 .1 .1 .1 .1 .1 .1 .0 ∙ c .before .before .before .before .before .before .before .before .before .before .put .kept .0
+
+  enter-returns-5 : enter-lts.Need-returns-5 (enter-claims t) (enter-at t) enter.Post
+  enter-returns-5 c = enters-turn _ _ (c .before .before .before .before .before .before .before .before .before .before .before .before .before .before .before .before .before .before .before .pre .1 .1) (c .before .before .before .before .before .before .before .before .before .before .before .before .before .before .before .if3 .left) (c .before .before .before .before .before .before .before .before .before .before .before .before .before .repeats .ensures) (c .before .before .before .before .before .before .before .before .before .before .before .before .if4 .left) (c .before .before .before .before .before .before .before .before .before .before .put .ensures .0) (c .before .before .before .before .before .before .before .before .before .before .put .ensures .1) (c .before .before .before .before .before .before .enter .ensures) (c .before .before .close .ensures)
+
+  enter-pair-element-copy-out-k : enter-pair-lts.Need-element-copy-out-k (enter-pair-claims t) (enter-pair-at t) enter-pair.Post
+  enter-pair-element-copy-out-k c = c .before .pre .1 .0 .within
+
+  enter-pair-mul-wide : enter-pair-lts.Need-mul-wide (enter-pair-claims t) (enter-pair-at t) enter-pair.Post
+  enter-pair-mul-wide c = omega (arith, c .before .before .pre .1 .0 .within)
+
+  enter-pair-element-copy-out-wide : enter-pair-lts.Need-element-copy-out-wide (enter-pair-claims t) (enter-pair-at t) enter-pair.Post
+  enter-pair-element-copy-out-wide c = c .before .before .pre .1 .0 .within
+
+  enter-pair-wide-requires : enter-pair-lts.Need-wide-requires (enter-pair-claims t) (enter-pair-at t) enter-pair.Post
+  enter-pair-wide-requires c κs = tt
+
+  enter-pair-sub-right : enter-pair-lts.Need-sub-right (enter-pair-claims t) (enter-pair-at t) enter-pair.Post
+  enter-pair-sub-right c = let s = c .before .before .before .before .pre .1 in omega (arith, above (s .1 .1 .0) (s .0 .holds))
+
+  enter-pair-open-to-requires : enter-pair-lts.Need-open-to-requires (enter-pair-claims t) (enter-pair-at t) enter-pair.Post
+  enter-pair-open-to-requires c κs = let s = c .before .before .before .before .pre .1 in (omega (arith, s .0 .within, s .1 .0 .long), omega (arith, s .0 .within))
+
+  enter-pair-enter-requires : enter-pair-lts.Need-enter-requires (enter-pair-claims t) (enter-pair-at t) enter-pair.Post
+  enter-pair-enter-requires c κs = let s = c .before .before .before .before .before .before .before .pre in let k = s .1 .1 .1 in let b = ready-left (s .1 .0) (k .0) (k .1) (c .before .before .before .wide .ensures) in (omega (arith, s .0, b .0), (b .1, scanned-to (s .1 .1 .0) (omega (arith, b .0))))
+
+  enter-pair-on-requires : enter-pair-lts.Need-on-requires (enter-pair-claims t) (enter-pair-at t) enter-pair.Post
+  enter-pair-on-requires c κs = let s = c .before .before .before .before .before .before .before .before .before .before .before .pre in let k = s .1 .1 .1 in (omega (arith, s .0, above (k .0) (s .1 .0 .holds)), (ready-on (s .1 .0) (k .0) (k .1) (c .before .before .before .before .before .before .before .wide .ensures) (c .before .before .before .enter .ensures), scanned-to (s .1 .1 .0) (omega arith)))
+
+  enter-pair-same-length : enter-pair-lts.Need-same-length (enter-pair-claims t) (enter-pair-at t) enter-pair.Post
+  enter-pair-same-length c = c .before .before .on .kept .1 .1 .1 .1 .1 .1 .1 .0 ∙ c .before .before .before .before .before .before .enter .kept .1 .1 .1 .1 .1 .1 .1 .0
+
+  enter-pair-returns : enter-pair-lts.Need-returns (enter-pair-claims t) (enter-pair-at t) enter-pair.Post
+  enter-pair-returns c = let s = c .before .before .before .before .before .before .before .before .before .before .before .before .before .before .pre .1 .1 in enters-cat _ _ (s .0) (s .1 .0) (s .1 .1) (c .before .before .before .before .before .before .before .before .before .before .wide .ensures) (c .before .before .before .before .before .before .before .before .before .open-to .ensures) (c .before .before .before .before .before .before .before .before .if1 .taken) (c .before .before .before .before .before .before .enter .ensures) (c .before .before .on .ensures)
+
+  enter-pair-open-to-requires-2 : enter-pair-lts.Need-open-to-requires-2 (enter-pair-claims t) (enter-pair-at t) enter-pair.Post
+  enter-pair-open-to-requires-2 c κs = let s = c .before .before .before .before .before .before .pre .1 in let b = ready-left (s .0) (s .1 .1 .0) (s .1 .1 .1) (c .before .before .wide .ensures) in (omega (arith, b .1 .within, s .1 .0 .long), b .1 .within)
+
+  enter-pair-enter-requires-2 : enter-pair-lts.Need-enter-requires-2 (enter-pair-claims t) (enter-pair-at t) enter-pair.Post
+  enter-pair-enter-requires-2 c κs = let s = c .before .before .before .before .before .before .before .before .before .pre in let k = s .1 .1 .1 in let b = ready-left (s .1 .0) (k .0) (k .1) (c .before .before .before .before .before .wide .ensures) in (omega (arith, s .0, b .0), (b .1, scanned-to (s .1 .1 .0) (omega (arith, b .0))))
+
+  enter-pair-also-requires : enter-pair-lts.Need-also-requires (enter-pair-claims t) (enter-pair-at t) enter-pair.Post
+  enter-pair-also-requires c κs = tt
+
+  enter-pair-same-length-2 : enter-pair-lts.Need-same-length-2 (enter-pair-claims t) (enter-pair-at t) enter-pair.Post
+  enter-pair-same-length-2 c = c .before .before .before .enter2 .kept .1 .1 .1 .1 .1 .1 .1 .0
+
+  enter-pair-returns-2 : enter-pair-lts.Need-returns-2 (enter-pair-claims t) (enter-pair-at t) enter-pair.Post
+  enter-pair-returns-2 c = let s = c .before .before .before .before .before .before .before .before .before .before .before .before .before .pre .1 .1 in enters-left _ _ (s .0) (s .1 .0) (s .1 .1) (c .before .before .before .before .before .before .before .before .before .wide .ensures) (c .before .before .before .before .before .before .before .before .open-to .ensures) (c .before .before .before .before .before .before .before .if1 .left) (c .before .before .before .before .before .before .open-to2 .ensures) (c .before .before .before .before .before .if2 .taken) (c .before .before .before .enter2 .ensures) (c .also .ensures)
+
+  enter-pair-enter-requires-3 : enter-pair-lts.Need-enter-requires-3 (enter-pair-claims t) (enter-pair-at t) enter-pair.Post
+  enter-pair-enter-requires-3 c κs = let s = c .before .before .before .before .before .before .before .before .before .pre in let k = s .1 .1 .1 in (omega (arith, s .0, above (k .0) (s .1 .0 .holds)), (ready-alt (s .1 .0) (k .0) (k .1) (c .before .before .before .before .before .wide .ensures), scanned-to (s .1 .1 .0) (omega arith)))
+
+  enter-pair-same-length-3 : enter-pair-lts.Need-same-length-3 (enter-pair-claims t) (enter-pair-at t) enter-pair.Post
+  enter-pair-same-length-3 c = c .before .before .enter3 .kept .1 .1 .1 .1 .1 .1 .1 .0
+
+  enter-pair-returns-3 : enter-pair-lts.Need-returns-3 (enter-pair-claims t) (enter-pair-at t) enter-pair.Post
+  enter-pair-returns-3 c = let s = c .before .before .before .before .before .before .before .before .before .before .before .before .pre .1 .1 in enters-right _ _ (s .0) (s .1 .0) (s .1 .1) (c .before .before .before .before .before .before .before .before .wide .ensures) (c .before .before .before .before .before .before .before .open-to .ensures) (c .before .before .before .before .before .before .if1 .left) (c .before .before .before .before .before .open-to2 .ensures) (c .before .before .before .before .if2 .left) (c .before .before .enter3 .ensures)
+
+  on-enum-known-s : on-lts.Need-enum-known-s (on-claims t) (on-at t) on.Post
+  on-enum-known-s c = c .match .keys1
+
+  on-enter-requires : on-lts.Need-enter-requires (on-claims t) (on-at t) on.Post
+  on-enter-requires c κs = let s = c .before .before .before .before .before .pre in (omega (arith, s .0), (rw (ap cursor (c .before .before .s .given .1)) at (s .1 .0), s .1 .1))
+
+  on-also-requires : on-lts.Need-also-requires (on-claims t) (on-at t) on.Post
+  on-also-requires c κs = tt
+
+  on-enum-known-s-2 : on-lts.Need-enum-known-s-2 (on-claims t) (on-at t) on.Post
+  on-enum-known-s-2 c = c .match .keys2
+
+  on-same-length : on-lts.Need-same-length (on-claims t) (on-at t) on.Post
+  on-same-length c = c .before .before .before .enter .kept .1 .1 .1 .1 .1 .1 .1 .0
+
+  on-returns : on-lts.Need-returns (on-claims t) (on-at t) on.Post
+  on-returns c = on-passed (c .before .before .before .before .before .before .s .given .1) (c .before .before .before .enter .ensures) (c .also .ensures)
+
+  on-returns-2 : on-lts.Need-returns-2 (on-claims t) (on-at t) on.Post
+  on-returns-2 c = on-stopped _ (c .before .s2 .given .1)
+
+  turn-goes-requires : turn-lts.Need-goes-requires (turn-claims t) (turn-at t) turn.Post
+  turn-goes-requires c κs = let s = c .before .pre .1 in omega (arith, s .0 .within, s .1 .long)
+
+  turn-put-requires : turn-lts.Need-put-requires (turn-claims t) (turn-at t) turn.Post
+  turn-put-requires c κs = omega (arith, c .before .before .before .before .pre .1 .0 .room)
+
+  turn-enter-requires : turn-lts.Need-enter-requires (turn-claims t) (turn-at t) turn.Post
+  turn-enter-requires c κs = let s = c .before .before .before .before .before .before .before .before .pre in (omega (arith, s .0), (rw (← c .before .before .before .put .ensures .0) at (s .1 .0), s .1 .1))
+
+  turn-also-requires : turn-lts.Need-also-requires (turn-claims t) (turn-at t) turn.Post
+  turn-also-requires c κs = tt
+
+  turn-same-length : turn-lts.Need-same-length (turn-claims t) (turn-at t) turn.Post
+  turn-same-length c = c .before .before .before .enter .kept .1 .1 .1 .1 .1 .1 .1 .0 ∙ c .before .before .before .before .before .before .before .put .kept .0
+
+  turn-returns : turn-lts.Need-returns (turn-claims t) (turn-at t) turn.Post
+  turn-returns c = turns-in _ _ (c .before .before .before .before .before .before .before .before .before .before .before .before .pre .1 .1) (c .before .before .before .before .before .before .before .before .before .before .goes .ensures) (c .before .before .before .before .before .before .before .before .before .if1 .taken) (c .before .before .before .before .before .before .before .put .ensures .0) (c .before .before .before .before .before .before .before .put .ensures .1) (c .before .before .before .enter .ensures) (c .also .ensures)
+
+  turn-returns-2 : turn-lts.Need-returns-2 (turn-claims t) (turn-at t) turn.Post
+  turn-returns-2 c = turns-none _ _ (c .before .before .before .pre .1 .1) (c .before .goes .ensures) (c .if1 .left)
+
+pub +enter+enter-pair+on+turn-spec : {M : Type 1} → statement M
++enter+enter-pair+on+turn-spec = close μ-enter μ-enter-pair μ-on μ-turn (λ t. enter-lts.spec (enter-claims t) (enter-at t) enter.Post (enter-element-copy-out-k t) (enter-returns t) (enter-mul-wide t) (enter-element-copy-out-wide t) (enter-wide-requires t) (enter-returns-2 t) (enter-enter-pair-requires t) (enter-same-length t) (enter-returns-3 t) (enter-sub-part t) (enter-mul-mark t) (enter-element-copy-out-mark t) (enter-repeats-requires t) (enter-turn-requires t) (enter-same-length-2 t) (enter-returns-4 t) (enter-put-requires t) (enter-enter-requires t) (enter-close-requires t) (enter-same-length-3 t) (enter-returns-5 t))
+    (λ t. enter-pair-lts.spec (enter-pair-claims t) (enter-pair-at t) enter-pair.Post (enter-pair-element-copy-out-k t) (enter-pair-mul-wide t) (enter-pair-element-copy-out-wide t) (enter-pair-wide-requires t) (enter-pair-sub-right t) (enter-pair-open-to-requires t) (enter-pair-enter-requires t) (enter-pair-on-requires t) (enter-pair-same-length t) (enter-pair-returns t) (enter-pair-open-to-requires-2 t) (enter-pair-enter-requires-2 t) (enter-pair-also-requires t) (enter-pair-same-length-2 t) (enter-pair-returns-2 t) (enter-pair-enter-requires-3 t) (enter-pair-same-length-3 t) (enter-pair-returns-3 t))
+    (λ t. on-lts.spec
+    (enter-below t, enter.Post, also-reads.Asked, also-reads.Learnt) (on-at t)
+    on.Post (on-enum-known-s t) (on-enter-requires t) (on-also-requires t) (on-enum-known-s-2 t) (on-same-length t) (on-returns t) (on-returns-2 t))
+    λ t. turn-lts.spec (turn-claims t) (turn-at t) turn.Post (turn-goes-requires t) (turn-put-requires t) (turn-enter-requires t) (turn-also-requires t) (turn-same-length t) (turn-returns t) (turn-returns-2 t)
