@@ -1,0 +1,9 @@
+-- The mathematics of the passes. Each module is one subject.
+pub mod Visits
+pub mod Words
+pub mod Upto
+pub mod Rests
+pub mod Reach
+pub mod Marked
+pub mod Living
+pub mod Longest

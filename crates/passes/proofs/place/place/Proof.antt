@@ -1,0 +1,86 @@
+-- `passes::place::place` meets its contract. The loop's invariant: i bytes, and those that can be read from `next` on, are the result.
+-- Assumes nothing.
+use mathlib.Core.Path.{_≡_, refl, sym, ap, _∙_}
+use mathlib.Core.Bool.{Bool, _&&_}
+use Prim.Native.Nat.{ℕ, _+_, _-_, _≤_}
+use native.Mathlib.Omega.{arith}
+use native.Mathlib.Nat.{zero-add, add-zero}
+use lib.ListN.{length, drop, getD}
+use Rattle.sets.specs.declared.set.Set.{Set}
+use Rattle.sets.specs.Members.{has, row}
+use Rattle.passes.specs.Ways.{readable}
+use Rattle.passes.proofs.Reach.{readable-stops, readable-more, readable-end}
+use Rattle.passes.proofs.place.place.Statement.{statement}
+use Rattle.passes.proofs.place.place.Tie as tie
+
+abbrev Inv-loop : tie.InvT-loop
+Inv-loop text mask follow next₀ i₀ next i = (i ≤ length text) × (readable mask follow (has next₀) text ≡ i + readable mask follow (has next) (drop i text))
+
+abbrev μ-loop : tie.MeasureT-loop
+μ-loop text mask follow next₀ i₀ next i = length text - i
+
+loop-holds : tie.Need-loop-holds Inv-loop μ-loop
+loop-holds c = (omega arith, sym (zero-add _))
+
+shared-slice-read-load : tie.Need-shared-slice-read-load Inv-loop μ-loop
+shared-slice-read-load c = omega arith
+
+cast-load : tie.Need-cast-load Inv-loop μ-loop
+cast-load c = omega (arith, c .shared-slice-known4 .given (c .before .before .loop .i))
+
+load-requires : tie.Need-load-requires Inv-loop μ-loop
+load-requires c κs = omega (arith, c .shared-slice-known4 .given (c .before .before .loop .i))
+
+meet-requires : tie.Need-meet-requires Inv-loop μ-loop
+meet-requires c κs = tt
+
+is-empty-requires : tie.Need-is-empty-requires Inv-loop μ-loop
+is-empty-requires c κs = tt
+
+-- the positions that read the byte at i
+reading : (c : tie.After-meet Inv-loop μ-loop) (q : ℕ) → has (c .meet .result) q ≡ (has (c .before .before .before .before .loop .next) q && has (row (c .before .before .before .before .before .before .before .before .args .mask .now) (getD (c .before .before .before .before .before .before .before .before .args .text .now) (c .before .before .before .before .loop .i) 0)) q)
+reading c q = c .meet .ensures q ∙ ap (λ (s : Set). has (c .before .before .before .before .loop .next) q && has s q) (c .before .load .ensures)
+
+returns : tie.Need-returns Inv-loop μ-loop
+returns c =
+    sym (c .before .before .before .before .before .before .loop .inv .1 ∙ ap (λ (n : ℕ). c .before .before .before .before .before .before .loop .i + n) (readable-stops (c .before .before .before .before .before .before .before .before .before .before .args .mask .now) (c .before .before .before .before .before .before .before .before .before .before .args .follow .now) (c .before .before .before .before .before .before .before .before .before .before .args .text .now) (has (c .before .before .before .before .before .before .loop .next)) (c .before .before .before .before .before .before .loop .i) (omega arith) (c .before .before .meet .result) (reading (c .before .before)) (sym (c .before .is-empty .ensures) ∙ c .if1 .taken)) ∙ add-zero _)
+
+after-requires : tie.Need-after-requires Inv-loop μ-loop
+after-requires c κs = omega (arith, c .before .before .before .before .before .before .before .before .before .before .pre)
+
+add-i : tie.Need-add-i Inv-loop μ-loop
+add-i c = omega arith
+
+loop-less : tie.Need-loop-less Inv-loop μ-loop
+loop-less c = omega arith
+
+loop-again : tie.Need-loop-again Inv-loop μ-loop
+loop-again c =
+    let more =
+    readable-more (c .before .before .before .before .before .before .before .before .before .before .before .args .mask .now) (c .before .before .before .before .before .before .before .before .before .before .before .args .follow .now) (c .before .before .before .before .before .before .before .before .before .before .before .args .text .now) (has (c .before .before .before .before .before .before .before .loop .next)) (c .before .before .before .before .before .before .before .loop .i) (omega arith) (c .before .before .before .meet .result) (reading (c .before .before .before))
+    (sym (c .before .before .is-empty .ensures) ∙ c .before .if1 .left) (c .after .result) (c .after .ensures) in
+    (omega arith, omega (arith, more, c .before .before .before .before .before .before .before .loop .inv .1))
+
+returns-2 : tie.Need-returns-2 Inv-loop μ-loop
+returns-2 c =
+    let end = readable-end (c .before .before .before .before .before .args .mask .now) (c .before .before .before .before .before .args .follow .now) (c .before .before .before .before .before .args .text .now) (has (c .before .loop .next)) (c .before .loop .i) (omega arith) in
+    omega (arith, end, c .before .loop .inv .1)
+
+pub place-spec : {M : Type 1} → statement M
+place-spec =
+    tie.close
+    (tie.spec
+    Inv-loop
+    μ-loop
+    loop-holds
+    shared-slice-read-load
+    cast-load
+    load-requires
+    meet-requires
+    is-empty-requires
+    returns
+    after-requires
+    add-i
+    loop-less
+    loop-again
+    returns-2)
