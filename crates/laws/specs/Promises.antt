@@ -41,13 +41,13 @@ refused-one (over-marks p h k j) (nested p′ h′) = let z = sizes p p′ in ab
 refused-one (over-marks p h k j) (positions p′ h′ k′) = let z = sizes p p′ in absurd (omega arith)
 refused-one (over-marks p h k j) (over-marks p′ h′ k′ j′) = (refl, refl)
 
-refused-accepted : {pat : List ℕ} {n v : ℕ} {e : Re} → Refused pat n v → Accepted pat e → ⊥
+pub refused-accepted : {pat : List ℕ} {n v : ℕ} {e : Re} → Refused pat n v → Accepted pat e → ⊥
 refused-accepted (not-a-pattern x l) a = x _ _ (a .denotes)
 refused-accepted (nested p h) a = let z = sizes p (a .denotes) in omega arith
 refused-accepted (positions p h k) a = let z = sizes p (a .denotes) in omega arith
 refused-accepted (over-marks p h k j) a = let z = sizes p (a .denotes) in omega arith
 
-accepted-one : {pat : List ℕ} {e e′ : Re} → Accepted pat e → Accepted pat e′ → e ≡ e′
+pub accepted-one : {pat : List ℕ} {e e′ : Re} → Accepted pat e → Accepted pat e′ → e ≡ e′
 accepted-one a a′ = one-reading (a .denotes) (a′ .denotes) .0
 
 pub read-one : {pat : List ℕ} {n v n′ v′ : ℕ} {P P′ : ReadPattern} → Read pat n v P → Read pat n′ v′ P′ → (n ≡ n′) × (v ≡ v′) × (P ≡ P′)

@@ -7,6 +7,7 @@ use Rattle.pattern.specs.declared.Reading.the-variants.{Read, TooLong, N
 use Rattle.pattern.specs.declared.ReadPattern.{ReadPattern}
 use Rattle.pattern.specs.declared.Answer.{Answer}
 
+-- the number of an answer, and its value
 abbrev pub number-of : Reading → ℕ
 number-of Read = 0
 number-of TooLong = 1
@@ -23,6 +24,7 @@ value-of TooDeep = 0
 value-of ManyPositions = 0
 value-of ManyMarks = 0
 
+-- what the read pattern has, in the words of the definitions
 abbrev pub parts-of : ReadPattern → meaning.ReadPattern
 parts-of r = record { kind = r .kind; arg = r .arg; class = r .class; nodes = r .nodes; positions = r .positions; marks = r .marks }
 

@@ -33,6 +33,7 @@ pub record Stores : Type 0 where
 abbrev pub stores : List ℕ → List ℕ → List ℕ → Stores
 stores k a w = record { kind = k; arg = a; word = w }
 
+-- as many entries as a pattern can need
 pub record Room (S : Stores) : Type 0 where
   pub kinds : length (S .kind) ≡ 1024
   pub args : length (S .arg) ≡ 1024
@@ -76,7 +77,7 @@ pub record Within (n : ℕ) (c : Cursor) : Type 0 where
   pub places : c .positions ≤ c .used
   pub marked : c .marks ≤ c .used
 
--- d is further on than c, with at most k nodes less than two for each byte
+-- d is further on than c in a pattern of n bytes: the nodes between them, and k more, are at most two for each byte
 pub record Moved (k n : ℕ) (c d : Cursor) : Type 0 where
   pub on : c .at < d .at
   pub inside : d .at ≤ n
@@ -106,5 +107,6 @@ pub record Numbered (u p m : ℕ) (e : Re) (gs gs′ : List ℕ) (r : ℕ) : Typ
   pub arg : gs′ ≡ sets gs u (args u m p e)
   pub marks : r ≡ m + marks e
 
+-- the same of whichever expression node i is the last of
 abbrev pub Numbers : List ℕ → List ℕ → List ℕ → ℕ → ℕ → ℕ → Type 0
 Numbers ks gs gs′ i m r = (e : Re) (u p : ℕ) → Lies ks gs u p i e → Numbered u p m e gs gs′ r

@@ -1,0 +1,86 @@
+-- One byte of the walk along a text, in terms of the code's steps. Assumes nothing.
+use mathlib.Core.Path.{_≡_, refl, sym, ap, _∙_}
+use mathlib.Core.Bool.{Bool, true, false}
+use mathlib.Core.List.{List, [], _∷_}
+use Prim.Native.Nat.{ℕ, suc, _+_, _*_, _≤_, _<_, _^_}
+use native.Mathlib.Nat.{mul-le-mul}
+use native.Mathlib.Omega.{arith}
+use lib.Dec.{eqb}
+use lib.ListN.{length, getD, drop, length-drop}
+use lib.Seq.{sets}
+use borrow.Author.Tests.{eq-eqb, ne-eqb}
+use Rattle.meaning.specs.Expression.{Re, marks, size}
+use Rattle.laws.specs.Holds.{Holds}
+use Rattle.positions.specs.Alive.{ended, alive}
+use Rattle.positions.specs.Theorem.{found, firstRow, otherTree}
+use Rattle.sets.specs.declared.set.Set.{Set}
+use Rattle.sets.specs.Members.{has, row, rows}
+use Rattle.walks.specs.declared.step.Step.{Step}
+use Rattle.walks.specs.declared.step.Step.the-variants.{Passed, Stopped}
+use Rattle.walks.specs.Enter.{Ready, EntersAt}
+use Rattle.walks.specs.Resume.{Placed}
+use Rattle.walks.specs.Steps.{noted, cursor}
+use Rattle.tree.specs.declared.walk.Walked.{Walked}
+use Rattle.tree.specs.Walk.{StepsAt, Advances, Walkable, Walks, Writes, other-of}
+use Rattle.tree.proofs.Along.{Along, along-start, along-more, along-stands, along-few, along-end}
+
+-- a step from where s stands
+pub advanced : {ks gs t t′ : List ℕ} {root b : ℕ} {goal : Set} {last : Bool} {s u r : Step} {q c : ℕ} {w : Bool} → s ≡ Stopped q c w → StepsAt ks gs root q b goal last t t′ c u → r ≡ noted w u
+    → Advances ks gs root b goal last t t′ s r
+advanced {ks} {gs} {t} {t′} {root} {b} {goal} {last} {s} {u} {r} {q} {c} {w} z S n = record {
+  on = λ q′ c′ w′ z′.
+      let i : q′ ≡ q = cc in
+      let j : c′ ≡ c = cc in
+      let k : w′ ≡ w = cc in
+      (u, rw (i, j) S, rw k n);
+}
+
+-- the last byte is the one before the end
+pub ended-at : (txt : List ℕ) (i : ℕ) → i ≤ length txt → eqb i (length txt) ≡ ended (drop i txt)
+ended-at txt i h = go (drop i txt) refl
+  where
+    go : (l : List ℕ) → drop i txt ≡ l → eqb i (length txt) ≡ ended l
+    go [] e = eq-eqb i (length txt) (omega (arith, length-drop i txt, ap length e))
+    go (x ∷ l) e = ne-eqb i (length txt) (λ z. omega (arith, length-drop i txt, ap length e))
+
+pub ended-zero : (txt : List ℕ) → eqb (length txt) 0 ≡ ended txt
+ended-zero [] = refl
+ended-zero (x ∷ l) = ne-eqb (suc (length l)) 0 (λ z. omega arith)
+
+pub placed-as : {ks gs : List ℕ} {i j a b : ℕ} → Placed ks gs i j a → b ≡ a → Placed ks gs i j b
+placed-as P z = rw z P
+
+module _ {e : Re} {ks gs txt cells : List ℕ} {root : ℕ} (W : Walkable e ks gs root txt cells) where
+  few : marks e ≤ 127
+  few = omega (arith, W .few)
+
+  -- the way into the root
+  pub walk-start : {t₀ t : List ℕ} {s : Step} {goal : Set} (last : Bool) → goal ≡ row cells 0 → last ≡ ended txt → EntersAt ks gs root goal last t₀ t 0 s → Along e txt t₀ t s 0
+  walk-start {goal = goal} last g l E =
+      along-start e (W .fair) few txt (has goal) last (W .a-tree) (λ q. ap (λ (u : Set). has u q) g ∙ W .living 0 q (omega arith)) l (E .wrote e 0 0 (W .holds))
+
+  -- on from byte i
+  pub walk-more : {t₀ t t′ : List ℕ} {s r : Step} {i : ℕ} {goal : Set} (last : Bool) → i < length txt → goal ≡ row cells (i + 1) → last ≡ ended (drop (i + 1) txt)
+      → Along e txt t₀ t s i → Advances ks gs root (getD txt i 0) goal last t t′ s r → Along e txt t₀ t′ r (i + 1)
+  walk-more {t₀} {t} {t′} {s} {r} {i} {goal} last h g l A D = go s refl
+    where
+      go : (x : Step) → s ≡ x → Along e txt t₀ t′ r (i + 1)
+      go (Passed c w) z = absurd (along-stands e (W .fair) few txt i h t₀ t t s s s A z)
+      go (Stopped q c w) z =
+          let x = D .on q c w z in
+          along-more e (W .fair) few txt i h t₀ t t′ s (x .0) r (has goal) last A z (λ p. ap (λ (u : Set). has u p) g ∙ W .living (i + 1) p (omega arith)) l
+          (x .1 .wrote e 0 0 (W .holds) (omega arith, omega (arith, along-few e (W .fair) few txt A z .0))) (x .2)
+
+  -- there is room to count
+  pub walk-placed : {t₀ t : List ℕ} {s : Step} {i : ℕ} → i ≤ length txt → Along e txt t₀ t s i → (q c : ℕ) (w : Bool) → s ≡ Stopped q c w → Placed ks gs root q (c + 1)
+  walk-placed {i = i} h A q c w z =
+      let f = along-few e (W .fair) few txt A z in
+      let k : i * (4 * marks e + 1) ≤ 4096 * 257 = mul-le-mul {n₁ = i} {m₁ = 4 * marks e + 1} {n₂ = 4096} {m₂ = 257} (omega (arith, W .short)) (omega (arith, W .few)) in
+      record { e = e; m = 0; p = 0; holds = W .holds; within = W .within; inside = (omega arith, omega (arith, f .0)); few = omega (arith, W .few); room = omega (arith, f .1, k, W .few) }
+
+  pub walk-ready : Ready ks gs root 0
+  walk-ready = record { e = e; m = 0; p = 0; holds = W .holds; within = W .within; few = omega (arith, W .few); room = omega (arith, W .few) }
+
+  -- and the end
+  pub walk-end : {t₀ t : List ℕ} {s : Step} {i : ℕ} {r : Walked} → Along e txt t₀ t s i → i ≡ length txt → r .length ≡ cursor s → r .other ≡ other-of s → Writes e txt t₀ t r
+  walk-end A z l o = let x = along-end e (W .fair) few txt A z in record { row = x .0; long = l ∙ ap cursor (x .1); other = o ∙ ap other-of (x .1) }

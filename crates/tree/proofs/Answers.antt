@@ -1,0 +1,83 @@
+-- What is told of a search is the promised answer. Assumes nothing.
+use mathlib.Core.Path.{_≡_, refl}
+use mathlib.Core.Bool.{Bool, true, false, cond}
+use mathlib.Core.List.{List}
+use Prim.Native.Nat.{ℕ, _≤_, _<_}
+use native.Mathlib.Omega.{arith}
+use lib.Dec.{ltb}
+use lib.ListN.{length}
+use borrow.Author.Tests.{ltb-true, ltb-false, le-leb, lt-leb}
+use Rattle.meaning.specs.Expression.{Re}
+use Rattle.meaning.specs.Promise.{Refused, not-a-pattern, nested, positions, over-marks, Judged, small-room, Answered, few-cells}
+use Rattle.tree.specs.declared.search.Found.{Found}
+use Rattle.tree.specs.declared.search.Found.the-variants as found
+use Rattle.tree.specs.declared.first_tree.Outcome.{Outcome}
+use Rattle.tree.specs.declared.first_tree.Outcome.the-variants as outcome
+use Rattle.tree.specs.First.{tell}
+use Rattle.tree.specs.Outcome as told
+use Rattle.tree.specs.Search.{Sought, no-tree, a-tree, Searched, sought, number-of, value-of, flag-of}
+
+refused-some : {pat : List ℕ} {n v : ℕ} → Refused pat n v → n ≡ 0 → ⊥
+refused-some (not-a-pattern x l) e = omega arith
+refused-some (nested p h) e = omega arith
+refused-some (positions p h k) e = omega arith
+refused-some (over-marks p h k j) e = omega arith
+
+-- no tree
+plain-sought : {e : Re} {text room room′ : List ℕ} {n v f : ℕ} → Sought e text room n v f room′ → (n ≡ 0 → ⊥) → Judged e text room n v f room′
+plain-sought (no-tree x l) z = Judged.no-tree x l
+plain-sought (a-tree x f) z = absurd (z refl)
+
+pub plain : {pat text cells room cells′ room′ : List ℕ} {n v f : ℕ} → Searched pat text cells room n v f cells′ room′ → (n ≡ 0 → ⊥) → Answered pat text cells room n v f cells′ room′
+plain (Searched.long-pattern h) z = Answered.long-pattern h
+plain (Searched.long-text h k) z = Answered.long-text h k
+plain (Searched.few-cells h k j) z = few-cells h k j
+plain (Searched.refused g r) z = Answered.refused g r
+plain (sought g a s) z = Answered.judged g a (plain-sought s z)
+
+-- a tree whose row the room holds
+fits-sought : {e : Re} {text room room′ : List ℕ} {n v f : ℕ} → Sought e text room n v f room′ → n ≡ 0 → v ≤ length room → Judged e text room 0 v f room′
+fits-sought (no-tree x l) z h = absurd (omega arith)
+fits-sought {room = room} (a-tree {row = row} x f) z h = rw (le-leb (length row) (length room) h) (Judged.tree x h f)
+
+pub fits : {pat text cells room cells′ room′ : List ℕ} {n v f : ℕ} → Searched pat text cells room n v f cells′ room′ → n ≡ 0 → v ≤ length room → Answered pat text cells room 0 v f cells′ room′
+fits (Searched.long-pattern h) z l = absurd (omega arith)
+fits (Searched.long-text h k) z l = absurd (omega arith)
+fits (Searched.few-cells h k j) z l = absurd (omega arith)
+fits (Searched.refused g r) z l = absurd (refused-some r z)
+fits (sought g a s) z l = Answered.judged g a (fits-sought s z l)
+
+-- a tree whose row it does not hold
+long-sought : {e : Re} {text room room′ : List ℕ} {n v f : ℕ} → Sought e text room n v f room′ → n ≡ 0 → length room < v → Judged e text room 9 v 0 room′
+long-sought (no-tree x l) z h = absurd (omega arith)
+long-sought {room = room} (a-tree {row = row} x f) z h = rw (lt-leb (length row) (length room) h) (small-room x h)
+
+pub long : {pat text cells room cells′ room′ : List ℕ} {n v f : ℕ} → Searched pat text cells room n v f cells′ room′ → n ≡ 0 → length room < v → Answered pat text cells room 9 v 0 cells′ room′
+long (Searched.long-pattern h) z l = absurd (omega arith)
+long (Searched.long-text h k) z l = absurd (omega arith)
+long (Searched.few-cells h k j) z l = absurd (omega arith)
+long (Searched.refused g r) z l = absurd (refused-some r z)
+long (sought g a s) z l = Answered.judged g a (long-sought s z l)
+
+abbrev tree-told : ℕ → Bool → Bool → Outcome
+tree-told l o short = cond short (outcome.SmallRoom l) (outcome.Tree l o)
+
+pub told-answered : {pat text cells room cells′ room′ : List ℕ} (r : Found) → Searched pat text cells room (number-of r) (value-of r) (flag-of r) cells′ room′
+    → Answered pat text cells room (told.number-of (tell r (length room))) (told.value-of (tell r (length room))) (told.flag-of (tell r (length room))) cells′ room′
+told-answered found.LongPattern s = plain s (λ z. omega arith)
+told-answered found.LongText s = plain s (λ z. omega arith)
+told-answered found.FewCells s = plain s (λ z. omega arith)
+told-answered (found.NoPattern place) s = plain s (λ z. omega arith)
+told-answered found.TooDeep s = plain s (λ z. omega arith)
+told-answered found.ManyPositions s = plain s (λ z. omega arith)
+told-answered found.ManyMarks s = plain s (λ z. omega arith)
+told-answered (found.NoTree place) s = plain s (λ z. omega arith)
+told-answered {pat} {text} {cells} {room} {cells′} {room′} (found.Tree l o) s = go (ltb (length room) l) refl
+  where
+    go : (t : Bool) → ltb (length room) l ≡ t → Answered pat text cells room (told.number-of (tree-told l o t)) (told.value-of (tree-told l o t)) (told.flag-of (tree-told l o t)) cells′ room′
+    go true e = long s refl (ltb-true _ _ e)
+    go false e = fits s refl (ltb-false _ _ e)
+
+pub answered-as : {pat text cells room cells′ room′ : List ℕ} {o : Outcome} (r : Found) → o ≡ tell r (length room) → Searched pat text cells room (number-of r) (value-of r) (flag-of r) cells′ room′
+    → Answered pat text cells room (told.number-of o) (told.value-of o) (told.flag-of o) cells′ room′
+answered-as r e s = rw e (told-answered r s)

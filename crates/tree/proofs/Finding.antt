@@ -1,0 +1,68 @@
+-- From a read pattern to exact tables and filled cells. Assumes nothing.
+use mathlib.Core.Path.{_≡_, refl, sym, ap, _∙_}
+use mathlib.Core.List.{List, [], _∷_, _++_}
+use Prim.Native.Nat.{ℕ, suc, _+_, _≤_, _<_}
+use native.Mathlib.Omega.{arith}
+use lib.ListN.{length, getD, drop, replicate}
+use lib.Seq.{getD-drop}
+use mir.Syntax.{w8}
+use mir.Val.{Fits}
+use Rattle.meaning.specs.Expression.{Re}
+use Rattle.meaning.specs.Grammar.{Bytes, no-byte, byte}
+use Rattle.meaning.specs.Limits.{text-limit}
+use Rattle.meaning.specs.Promise.{cleared}
+use Rattle.passes.specs.Masks.{Masked}
+use Rattle.passes.specs.Ways.{Backed}
+use Rattle.passes.proofs.Living.{living-alive}
+use Rattle.passes.proofs.Marked.{masked-classes, zeros-empty}
+use Rattle.passes.proofs.Rests.{backed-past}
+use Rattle.passes.specs.Tables.{Tables}
+use Rattle.sets.specs.declared.set.Set.{Set}
+use Rattle.sets.specs.Members.{has, row, rows}
+use Rattle.walks.specs.Root.{Root, Tabled}
+use Rattle.tree.specs.declared.search.Found.{Found}
+use Rattle.tree.specs.Judge.{Given, Judgeable, SoughtAs, Finds}
+use Rattle.tree.specs.Walk.{Charted}
+
+-- the elements of a slice of bytes
+pub bytes-of : (l : List ℕ) → ((i : ℕ) → Fits w8 (getD l i 0)) → Bytes l
+bytes-of [] h = no-byte
+bytes-of (b ∷ l) h = byte (h 0 .fits) (bytes-of l (λ i. h (suc i)))
+
+pub charted-of : {ks gs ns fs us ts : List ℕ} {root : ℕ} {last : Set} → Tabled ks gs ns fs us ts root last → Charted ks gs ns fs us root
+charted-of T = record { scanned = T .scanned; upto = T .upto }
+
+-- what is left in the cells, cleared
+pub cleared-cells : {mask follow text l m m′ : List ℕ} {ends : Set} → Backed mask follow ends text l m → m′ ≡ replicate (length text + 1) 0 ++ drop (length text + 1) m → m′ ≡ cleared text l
+cleared-cells {text = text} B e = e ∙ ap (λ (r : List ℕ). replicate (length text + 1) 0 ++ r) (backed-past B)
+
+module _ {e : Re} {ks gs cs : List ℕ} {root n : ℕ} (G : Given e ks gs cs root n) where
+  pub given-root : Root ks gs root
+  given-root = record { e = e; holds = G .holds; all = G .all; within = G .within; few = G .few-positions }
+
+  module _ {ns fs us ts mask : List ℕ} {last : Set} (T : Tabled ks gs ns fs us ts root last) (M : Masked cs n (replicate 256 0) mask) where
+    exact : Tables e mask ts last (row fs root)
+    exact = record {
+      reading = λ b q h. masked-classes (zeros-empty 256) M b q h ∙ sym (G .classes q b h);
+      following = λ j q h. T .follow e (G .holds) j h q;
+      ending = λ q. T .ends e (G .holds) q;
+      beginning = λ q. T .scanned .first root (omega arith) .has-firsts e 0 0 (G .holds) q;
+    }
+
+    pub judgeable : {text l m : List ℕ} → Backed mask ts last text l m → ((i : ℕ) → Fits w8 (getD text i 0)) → length text ≤ text-limit → length text < rows l → Judgeable e ks gs fs mask ts root text m
+    judgeable {text} {l} {m} B b s h = record {
+      holds = G .holds;
+      within = G .within;
+      fair = G .fair;
+      can-read = G .can-read;
+      few-marks = G .few-marks;
+      bytes = bytes-of text b;
+      short = s;
+      enough = omega (arith, B .same-rows);
+      living = λ i q k. B .here i q k ∙ living-alive e mask ts last (row fs root) exact (bytes-of (drop i text) (λ j. rw (getD-drop i text j 0) (b (i + j)))) q;
+      last = last;
+      tables = exact;
+    }
+
+pub finds : {e : Re} {text cells cells′ t t′ : List ℕ} {r : Found} → SoughtAs e text t t′ r → cells′ ≡ cleared text cells → Finds e text cells cells′ t t′ r
+finds s c = record { sought = s; clear = c }

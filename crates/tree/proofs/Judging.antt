@@ -1,0 +1,63 @@
+-- From exact tables and filled cells to the answer. Assumes nothing.
+use mathlib.Core.Path.{_≡_, refl, sym, ap, ap₂, _∙_}
+use mathlib.Core.Bool.{Bool, true, false, _&&_, _||_, not, cond}
+use mathlib.Core.List.{List, [], _∷_, _++_}
+use Prim.Native.Nat.{ℕ, _+_, _≤_, _<_}
+use native.Mathlib.Nat.{zero-add}
+use native.Mathlib.Omega.{arith}
+use lib.Dec.{eqb, leb}
+use lib.ListN.{length, getD, drop}
+use lib.Seq.{sets, sets-eq}
+use borrow.Author.Tests.{le-leb, lt-leb}
+use Rattle.meaning.specs.Expression.{Re, marks, size}
+use Rattle.meaning.specs.Promise.{written}
+use Rattle.meaning.specs.Tree.{First, Flag}
+use Rattle.positions.specs.Alive.{ended, alive}
+use Rattle.positions.specs.Sets.{leads-same}
+use Rattle.positions.specs.Tests.{nullable, leads, feasible}
+use Rattle.positions.specs.Theorem.{found, firstRow, otherTree, no-tree, first-tree, first-flag}
+use Rattle.passes.specs.Ways.{readable}
+use Rattle.passes.proofs.Longest.{readable-longest}
+use Rattle.sets.specs.declared.set.Set.{Set}
+use Rattle.sets.specs.Members.{has, row, rows, meets}
+use Rattle.walks.specs.Enter.{openTo}
+use Rattle.walks.proofs.Looks.{open-is}
+use Rattle.tree.specs.declared.search.Found.the-variants as found-as
+use Rattle.tree.specs.declared.walk.Walked.{Walked}
+use Rattle.tree.specs.Judge.{Judgeable, Measures, SoughtAs}
+use Rattle.tree.specs.Search as search
+use Rattle.tree.specs.Search.{Sought, kept}
+use Rattle.tree.specs.Walk.{Charted, Walkable}
+use Rattle.tree.proofs.Advance.{ended-zero}
+
+-- a room that holds the row, and one that does not
+pub kept-whole : (row t : List ℕ) → length row ≤ length t → sets t 0 row ≡ kept row t
+kept-whole row t h =
+    let z : 0 + length row ≡ length row = zero-add (length row) in
+    sets-eq row t 0 (omega arith) ∙ ap (λ (n : ℕ). row ++ drop n t) z ∙ ap (λ (b : Bool). cond b (written row t) t) (sym (le-leb (length row) (length t) h))
+
+pub kept-none : (row t : List ℕ) → length t < length row → t ≡ kept row t
+kept-none row t h = ap (λ (b : Bool). cond b (written row t) t) (sym (lt-leb (length row) (length t) h))
+
+sought-tree : {e : Re} {text row t t′ : List ℕ} {v f f′ : ℕ} → First e text row → Flag e text f → v ≡ length row → f′ ≡ f → t′ ≡ kept row t → Sought e text t 0 v f′ t′
+sought-tree a b i j k = rw (i, j, k) (search.a-tree a b)
+
+module _ {e : Re} {ks gs fs mask follow text cells : List ℕ} {root : ℕ} (J : Judgeable e ks gs fs mask follow root text cells) where
+  few : marks e ≤ 127
+  few = omega (arith, J .few-marks)
+
+  -- whether the root is open to the first cell says whether there is a tree
+  pub found-is : {ns us : List ℕ} {goal : Set} {r : Bool} → Charted ks gs ns fs us root → goal ≡ row cells 0
+      → r ≡ openTo (meets (row fs root) goal) (getD ns root 0) (eqb (length text) 0) → r ≡ found e text
+  found-is {ns} {us} {goal} {r} C g i =
+      open-is (C .scanned) (omega arith) goal (eqb (length text) 0) i (J .holds)
+      ∙ ap₂ (λ (l b : Bool). l || (nullable e && b)) (leads-same 0 e (has goal) (alive e text) (λ q. ap (λ (u : Set). has u q) g ∙ J .living 0 q (omega arith))) (ended-zero text)
+
+  pub judge-walkable : found e text ≡ true → Walkable e ks gs root text cells
+  judge-walkable y = record { holds = J .holds; within = J .within; fair = J .fair; few = J .few-marks; short = J .short; enough = J .enough; living = J .living; a-tree = y }
+
+  pub judge-tree : {t t′ : List ℕ} {w : Walked} → found e text ≡ true → Measures e text w → t′ ≡ kept (firstRow e text) t → SoughtAs e text t t′ (found-as.Tree (w .length) (w .other))
+  judge-tree y M z = sought-tree (first-tree e (J .fair) few text y) (first-flag e (J .fair) few text y) (M .long) (ap (λ (b : Bool). cond b 1 0) (M .other)) z
+
+  pub judge-none : {t : List ℕ} {n : ℕ} → found e text ≡ false → n ≡ readable mask follow (has (row fs root)) text → SoughtAs e text t t (found-as.NoTree n)
+  judge-none y z = rw z (search.no-tree (no-tree e text y) (readable-longest e (J .can-read) mask follow (J .last) (row fs root) (J .tables) text (J .bytes)))

@@ -1,0 +1,10 @@
+-- The mathematics of the tree part. Each module is one subject.
+pub mod Counts
+pub mod Answers
+pub mod Settled
+pub mod Meaning
+pub mod Along
+pub mod Advance
+pub mod Judging
+pub mod Finding
+pub mod Searching

@@ -1,0 +1,66 @@
+-- From the pattern reader's answer to the promise of the search. Assumes nothing.
+use mathlib.Core.Path.{_≡_, refl, sym, ap, _∙_}
+use mathlib.Core.List.{List}
+use Prim.Native.Nat.{ℕ, suc, _-_, _≤_, _<_}
+use native.Mathlib.Omega.{arith}
+use lib.ListN.{length, getD}
+use mir.Syntax.{w8}
+use mir.Val.{Fits}
+use Rattle.meaning.specs.Expression.{Re}
+use Rattle.meaning.specs.Limits.{pattern-limit, text-limit}
+use Rattle.meaning.specs.Promise.{Ready, Refused, cleared}
+use Rattle.meaning.specs.ReadPattern.{nodes}
+use Rattle.laws.specs.Accepted.{accepted-fair, accepted-open}
+use Rattle.laws.specs.Holds.{nodes-some}
+use Rattle.passes.specs.Masks.{classed}
+use Rattle.pattern.specs.declared.Answer.{Answer}
+use Rattle.pattern.specs.declared.ReadPattern.{ReadPattern}
+use Rattle.pattern.specs.declared.Reading.{Reading}
+use Rattle.pattern.specs.Answers as read
+use Rattle.pattern.proofs.Held.{Held, refusal}
+use Rattle.pattern.proofs.Unique.{Answers}
+use Rattle.tree.specs.declared.search.Found.{Found}
+use Rattle.tree.specs.Judge.{Given, Gives, Finds, SoughtAs}
+use Rattle.tree.specs.Search.{Searched, refused, sought, number-of, value-of, flag-of}
+use Rattle.tree.proofs.Finding.{bytes-of}
+
+-- no line before 4 applies
+pub ready : {pat text cells : List ℕ} → length pat ≤ pattern-limit → length text ≤ text-limit → length text < length cells → Ready pat text cells
+ready h k l = record { short-pattern = h; short-text = k; cells-enough = omega arith }
+
+module _ {pat : List ℕ} {P : ReadPattern} (bytes : (i : ℕ) → Fits w8 (getD pat i 0)) (H : Held pat P) where
+  -- the read pattern holds what the pattern denotes
+  given-of : Given (H .denotes) (P .kind) (P .arg) (P .class) (P .nodes - 1) (P .positions)
+  unfolding classed
+  given-of =
+      let h = H .holding in
+      let some = nodes-some (H .denotes) in
+      record {
+        holds = h .holds;
+        all = omega (arith, h .nodes-are);
+        within = omega (arith, h .few-nodes);
+        fair = accepted-fair (H .accepted);
+        can-read = accepted-open (H .accepted) (bytes-of pat bytes);
+        few-marks = H .accepted .few-marks;
+        few-positions = H .accepted .few-positions;
+        positions-are = h .positions-are;
+        classes = h .classes;
+      }
+
+  pub gives : Gives (P .kind) (P .arg) (P .class) (P .nodes - 1) (P .positions)
+  gives = record { e = H .denotes; given = given-of }
+
+  pub some-node : 1 ≤ P .nodes
+  some-node = omega (arith, H .holding .nodes-are, nodes-some (H .denotes))
+
+  pub searched : {text cells cells′ t t′ : List ℕ} {r : Found} → Ready pat text cells
+      → ((e : Re) → Given e (P .kind) (P .arg) (P .class) (P .nodes - 1) (P .positions) → Finds e text cells cells′ t t′ r)
+      → Searched pat text cells t (number-of r) (value-of r) (flag-of r) cells′ t′
+  searched g f = let x = f (H .denotes) given-of in rw (x .clear) (sought g (H .accepted) (x .sought))
+
+-- a refusal
+pub refuses : {pat text cells t : List ℕ} (a : Answer) (r : Reading) → Answers pat a → Ready pat text cells → a .reading ≡ r → (read.number-of r ≡ 0 → ⊥) → (read.number-of r ≡ 1 → ⊥)
+    → Searched pat text cells t (read.number-of r) (read.value-of r) 0 cells t
+refuses {pat} a r h g e x y =
+    let z : Refused pat (read.number-of r) (read.value-of r) = rw e at (refusal a h (λ n. x (sym (ap read.number-of e) ∙ n)) (λ n. y (sym (ap read.number-of e) ∙ n))) in
+    refused g z

@@ -1,0 +1,16 @@
+-- `tree::search::measure` meets its contract. Assumes nothing.
+use borrow.Author.Needs.{needs}
+use Rattle.tree.proofs.search.measure.Statement.{statement}
+use Rattle.tree.proofs.search.measure.Tie as tie
+
+slice-aggregate-walk : tie.Need-slice-aggregate-walk
+slice-aggregate-walk c = search needs
+
+walk-requires : tie.Need-walk-requires
+walk-requires c κs = search needs
+
+returns : tie.Need-returns
+returns c = λ e w. let m = c .before .walk .ensures e w in record { long = m .long; other = m .other }
+
+pub measure-spec : {M : Type 1} → statement M
+measure-spec = tie.close (tie.spec slice-aggregate-walk walk-requires returns)

@@ -1,0 +1,101 @@
+-- `tree::search::search` meets its contract. Assumes nothing.
+use mathlib.Core.Path.{_≡_}
+use Prim.Native.Nat.{ℕ}
+use native.Mathlib.Omega.{arith}
+use Rattle.meaning.specs.Promise.{Ready}
+use Rattle.pattern.specs.declared.Reading.the-variants as reading
+use Rattle.pattern.proofs.Held.{Held, held, too-long}
+use Rattle.tree.specs.Search.{Searched, long-pattern, long-text, few-cells}
+use Rattle.tree.proofs.Searching.{ready, gives, some-node, searched, refuses}
+use borrow.Author.Needs.{needs}
+use Rattle.tree.proofs.search.search.Statement.{statement}
+use Rattle.tree.proofs.search.search.Tie as tie
+
+returns : tie.Need-returns
+returns c = long-pattern (omega arith)
+
+returns-2 : tie.Need-returns-2
+returns-2 c = long-text (omega arith) (omega arith)
+
+returns-3 : tie.Need-returns-3
+returns-3 c = few-cells (omega arith) (omega arith) (omega arith)
+
+read-requires : tie.Need-read-requires
+read-requires c κs = search needs
+
+enum-told : tie.Need-enum-told
+enum-told c = search needs
+
+-- the reader accepted the pattern
+a-pattern : (c : tie.After-enum-told) → Held (c .before .before .before .before .before .before .before .before .before .before .args .pattern .now) (c .before .before .read .result .pattern)
+a-pattern c = held (c .before .before .read .result) (c .before .before .read .ensures) (c .enum-told .given .1)
+
+sub-root : tie.Need-sub-root
+sub-root c = some-node (c .before .before .before .before .before .before .before .before .before .before .shared-slice-known .given) (a-pattern (c .before))
+
+find-requires : tie.Need-find-requires
+find-requires c κs = (gives (c .before .before .before .before .before .before .before .before .before .before .before .before .before .before .before .before .shared-slice-known .given) (a-pattern (c .before .before .before .before .before .before .before)), (omega arith, omega arith))
+
+enum-told-2 : tie.Need-enum-told-2
+enum-told-2 c = search needs
+
+enum-known-reading : tie.Need-enum-known-reading
+enum-known-reading c = search needs
+
+enum-told-3 : tie.Need-enum-told-3
+enum-told-3 c = search needs
+
+enum-told-4 : tie.Need-enum-told-4
+enum-told-4 c = search needs
+
+enum-told-5 : tie.Need-enum-told-5
+enum-told-5 c = search needs
+
+same-length : tie.Need-same-length
+same-length c = search needs
+
+same-length-2 : tie.Need-same-length-2
+same-length-2 c = search needs
+
+returns-4 : tie.Need-returns-4
+returns-4 c = searched (c .before .before .before .before .before .before .before .before .before .before .before .before .before .before .before .before .before .before .before .before .before .shared-slice-known .given) (a-pattern (c .before .before .before .before .before .before .before .before .before .before .before .before)) (ready (omega arith) (omega arith) (omega arith)) (c .before .before .before .before .find .ensures)
+
+returns-5 : tie.Need-returns-5
+returns-5 c = absurd (omega (arith, too-long (c .before .before .read .result) (c .before .before .read .ensures) (c .enum-told2 .given .1)))
+
+returns-6 : tie.Need-returns-6
+returns-6 c = refuses (c .before .before .before .read .result) (reading.NoPattern _) (c .before .before .before .read .ensures) (ready (omega arith) (omega arith) (omega arith)) (c .before .reading .given .1) (λ z. omega arith) (λ z. omega arith)
+
+returns-7 : tie.Need-returns-7
+returns-7 c = refuses (c .before .before .read .result) reading.TooDeep (c .before .before .read .ensures) (ready (omega arith) (omega arith) (omega arith)) (c .enum-told3 .given .1) (λ z. omega arith) (λ z. omega arith)
+
+returns-8 : tie.Need-returns-8
+returns-8 c = refuses (c .before .before .read .result) reading.ManyPositions (c .before .before .read .ensures) (ready (omega arith) (omega arith) (omega arith)) (c .enum-told4 .given .1) (λ z. omega arith) (λ z. omega arith)
+
+returns-9 : tie.Need-returns-9
+returns-9 c = refuses (c .before .before .read .result) reading.ManyMarks (c .before .before .read .ensures) (ready (omega arith) (omega arith) (omega arith)) (c .enum-told5 .given .1) (λ z. omega arith) (λ z. omega arith)
+
+pub search-spec : {M : Type 1} → statement M
+search-spec =
+    tie.close
+    (tie.spec
+    returns
+    returns-2
+    returns-3
+    read-requires
+    enum-told
+    sub-root
+    find-requires
+    enum-told-2
+    enum-known-reading
+    enum-told-3
+    enum-told-4
+    enum-told-5
+    same-length
+    same-length-2
+    returns-4
+    returns-5
+    returns-6
+    returns-7
+    returns-8
+    returns-9)

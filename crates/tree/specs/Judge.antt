@@ -1,0 +1,72 @@
+-- What the parts of the search ask and what they find. Assumes nothing: these are definitions.
+use mathlib.Core.Path.{_≡_}
+use mathlib.Core.List.{List}
+use Prim.Native.Nat.{ℕ, suc, _≤_, _<_}
+use lib.ListN.{length, drop}
+use Rattle.meaning.specs.Expression.{Re, marks, size}
+use Rattle.meaning.specs.Grammar.{Bytes}
+use Rattle.meaning.specs.Limits.{text-limit, mark-limit, position-limit}
+use Rattle.meaning.specs.Promise.{cleared}
+use Rattle.meaning.specs.ReadPattern.{nodes}
+use Rattle.grammar.specs.Fair.{Fair}
+use Rattle.grammar.specs.Open.{Open}
+use Rattle.laws.specs.Holds.{Holds}
+use Rattle.positions.specs.Alive.{alive}
+use Rattle.positions.specs.Tests.{reads}
+use Rattle.positions.specs.Theorem.{firstRow, otherTree}
+use Rattle.passes.specs.Masks.{classed}
+use Rattle.passes.specs.Tables.{Tables}
+use Rattle.sets.specs.declared.set.Set.{Set}
+use Rattle.sets.specs.Members.{has, row, rows}
+use Rattle.tree.specs.declared.search.Found.{Found}
+use Rattle.tree.specs.declared.walk.Walked.{Walked}
+use Rattle.tree.specs.Search.{Sought, number-of, value-of, flag-of}
+
+-- the read pattern holds e, which is within the limits and whose n positions have these classes
+pub record Given (e : Re) (ks gs cs : List ℕ) (root n : ℕ) : Type 0 where
+  pub holds : Holds ks gs 0 0 root e
+  pub all : nodes e ≡ suc root
+  pub within : root < 1024
+  pub fair : Fair e
+  pub can-read : Open e
+  pub few-marks : marks e ≤ mark-limit
+  pub few-positions : size e ≤ position-limit
+  pub positions-are : n ≡ size e
+  pub classes : (q b : ℕ) → b < 256 → reads 0 e q b ≡ classed cs n q b
+
+-- for some e
+pub record Gives (ks gs cs : List ℕ) (root n : ℕ) : Type 0 where
+  pub e : Re
+  pub given : Given e ks gs cs root n
+
+-- the same with exact tables, and cells that hold the positions that are alive at each place of the text
+pub record Judgeable (e : Re) (ks gs fs mask follow : List ℕ) (root : ℕ) (text cells : List ℕ) : Type 0 where
+  pub holds : Holds ks gs 0 0 root e
+  pub within : root < 1024
+  pub fair : Fair e
+  pub can-read : Open e
+  pub few-marks : marks e ≤ mark-limit
+  pub bytes : Bytes text
+  pub short : length text ≤ text-limit
+  pub enough : length text < rows cells
+  pub living : (i q : ℕ) → i ≤ length text → has (row cells i) q ≡ alive e (drop i text) q
+  pub last : Set
+  pub tables : Tables e mask follow last (row fs root)
+
+-- for some e
+pub record Judges (ks gs fs mask follow : List ℕ) (root : ℕ) (text cells : List ℕ) : Type 0 where
+  pub e : Re
+  pub judgeable : Judgeable e ks gs fs mask follow root text cells
+
+-- the length of the first tree's row, and whether there is another tree
+pub record Measures (e : Re) (text : List ℕ) (r : Walked) : Type 0 where
+  pub long : r .length ≡ length (firstRow e text)
+  pub other : r .other ≡ otherTree e text
+
+abbrev pub SoughtAs : Re → List ℕ → List ℕ → List ℕ → Found → Type 0
+SoughtAs e text t t′ r = Sought e text t (number-of r) (value-of r) (flag-of r) t′
+
+-- what is found, and the cells that are asked for zero
+pub record Finds (e : Re) (text cells cells′ t t′ : List ℕ) (r : Found) : Type 0 where
+  pub sought : SoughtAs e text t t′ r
+  pub clear : cells′ ≡ cleared text cells

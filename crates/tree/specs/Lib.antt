@@ -1,0 +1,7 @@
+-- The numbers that the answers stand for, and what the contracts cite.
+pub mod Turns
+pub mod Search
+pub mod Outcome
+pub mod First
+pub mod Walk
+pub mod Judge

@@ -1,0 +1,69 @@
+-- What a walk along a text asks and what it does. Assumes nothing: these are definitions.
+use mathlib.Core.Path.{_≡_}
+use mathlib.Core.Bool.{Bool, true}
+use mathlib.Core.List.{List}
+use Prim.Native.Nat.{ℕ, _+_, _≤_, _<_}
+use lib.ListN.{length, drop}
+use lib.Seq.{sets}
+use Rattle.meaning.specs.Expression.{Re, marks, size}
+use Rattle.meaning.specs.Limits.{text-limit, mark-limit}
+use Rattle.meaning.specs.Tree.{letter}
+use Rattle.grammar.specs.Fair.{Fair}
+use Rattle.laws.specs.Holds.{Holds}
+use Rattle.positions.specs.Alive.{alive}
+use Rattle.positions.specs.Places.{In}
+use Rattle.positions.specs.Runs.{put, resumeRun}
+use Rattle.positions.specs.Theorem.{found, firstRow, otherTree}
+use Rattle.sets.specs.declared.set.Set.{Set}
+use Rattle.sets.specs.Members.{has, row, rows}
+use Rattle.walks.specs.declared.step.Step.{Step}
+use Rattle.walks.specs.declared.step.Step.the-variants.{Passed, Stopped}
+use Rattle.walks.specs.Enter.{Scanned}
+use Rattle.walks.specs.Resume.{Placed}
+use Rattle.walks.specs.Steps.{noted, Wrote}
+use Rattle.walks.specs.Tables.{Known, number, EndAt}
+use Rattle.tree.specs.declared.walk.Walked.{Walked}
+
+-- the tables of the nodes are right up to the root
+pub record Charted (ks gs ns fs us : List ℕ) (root : ℕ) : Type 0 where
+  pub scanned : Scanned ks gs ns fs root
+  pub upto : Known number (EndAt ks gs) us root
+
+-- from position j, which has read the byte b: the letter, and the marks up to the next position of the goal or, if `last`, to the end
+pub record StepsAt (ks gs : List ℕ) (root j b : ℕ) (goal : Set) (last : Bool) (t t′ : List ℕ) (from : ℕ) (r : Step) : Type 0 where
+  pub wrote : (e : Re) (m p : ℕ) → Holds ks gs m p root e → In p e j → Wrote t t′ from r (put (letter b) (resumeRun m p e j (has goal) last))
+
+-- a walk that stands before a position has room to go on
+abbrev pub Stands : List ℕ → List ℕ → ℕ → Step → Type 0
+Stands ks gs root s = (q c : ℕ) (w : Bool) → s ≡ Stopped q c w → Placed ks gs root q (c + 1)
+
+-- the same from where the step s stands
+pub record Advances (ks gs : List ℕ) (root b : ℕ) (goal : Set) (last : Bool) (t t′ : List ℕ) (s r : Step) : Type 0 where
+  pub on : (q c : ℕ) (w : Bool) → s ≡ Stopped q c w → (u : Step) × StepsAt ks gs root q b goal last t t′ c u × (r ≡ noted w u)
+
+-- the root holds e, and the cells hold the positions that are alive at each place of the text, which has a tree
+pub record Walkable (e : Re) (ks gs : List ℕ) (root : ℕ) (text cells : List ℕ) : Type 0 where
+  pub holds : Holds ks gs 0 0 root e
+  pub within : root < 1024
+  pub fair : Fair e
+  pub few : marks e ≤ mark-limit
+  pub short : length text ≤ text-limit
+  pub enough : length text < rows cells
+  pub living : (i q : ℕ) → i ≤ length text → has (row cells i) q ≡ alive e (drop i text) q
+  pub a-tree : found e text ≡ true
+
+-- for some e
+pub record Walks (ks gs : List ℕ) (root : ℕ) (text cells : List ℕ) : Type 0 where
+  pub e : Re
+  pub walkable : Walkable e ks gs root text cells
+
+-- the row of the first tree is written as far as it fits; its length, and whether there is another tree
+pub record Writes (e : Re) (text t t′ : List ℕ) (r : Walked) : Type 0 where
+  pub row : t′ ≡ sets t 0 (firstRow e text)
+  pub long : r .length ≡ length (firstRow e text)
+  pub other : r .other ≡ otherTree e text
+
+-- whether another way was open
+abbrev pub other-of : Step → Bool
+other-of (Passed c w) = w
+other-of (Stopped q c w) = w

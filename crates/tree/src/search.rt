@@ -1,0 +1,172 @@
+// The search for the first tree.
+ghost use Prim.Native.Nat.{_≤_, _<_};
+ghost use lib.ListN.{length};
+ghost use Rattle.meaning.specs.Expression.{Re};
+ghost use Rattle.meaning.specs.Limits.{text-limit};
+ghost use Rattle.sets.specs.Members.{limit, rows};
+ghost use Rattle.tree.specs.Search.{Searched, number-of, value-of, flag-of};
+ghost use Rattle.tree.specs.Walk.{Charted, Walkable, Walks};
+ghost use Rattle.tree.specs.Judge.{Given, Gives, Judgeable, Judges, Measures, SoughtAs, Finds};
+use crate::walk::Walked;
+use crate::walk::walk;
+use passes::backward::backward;
+use passes::cells::clear;
+use passes::masks::masks;
+use passes::place::place;
+use pattern::PATTERN_LIMIT;
+use pattern::Reading;
+use pattern::read;
+use sets::set::Set;
+use walks::look::open_to;
+use walks::tables::tables;
+
+// Bytes of a text.
+pub const TEXT_LIMIT: usize = 4096;
+
+pub enum Found {
+    LongPattern,
+    LongText,
+    FewCells,
+    NoPattern(usize),
+    TooDeep,
+    ManyPositions,
+    ManyMarks,
+    NoTree(usize),
+    Tree(usize, bool),
+}
+
+// The walk along the text with next to no room, for what it counts.
+fn measure<'a>(
+    kind: &'a [u8; 1024],
+    arg: &'a [u16; 1024],
+    null: &'a [u8; 1024],
+    first: &'a [u64; 1024],
+    upto: &'a [u16; 1024],
+    root: usize,
+    text: &[u8],
+    cells: &[u64],
+) -> Walked
+    requires { ⌜ Walks (now kind) (now arg) root (now text) (now cells) ⌝ }
+    requires { ⌜ Charted (now kind) (now arg) (now null) (now first) (now upto) root ⌝ }
+    ensures { λ r. ⌜ ((e : Re) → Walkable e (now (kind .entry)) (now (arg .entry)) root (now (text .entry)) (now (cells .entry)) → Measures e (now (text .entry)) r) ⌝ }
+{
+    let mut none = [0u16; 1];
+    walk(kind, arg, null, first, upto, root, text, cells, &mut none)
+}
+
+// With the cells filled: is there a tree? Its row goes into the room if that holds it.
+fn judge<'a>(
+    kind: &'a [u8; 1024],
+    arg: &'a [u16; 1024],
+    null: &'a [u8; 1024],
+    first: &'a [u64; 1024],
+    upto: &'a [u16; 1024],
+    root: usize,
+    mask: &[u64; 256],
+    follow: &[u64; 64],
+    text: &[u8],
+    cells: &[u64],
+    tree: &mut [u16],
+) -> Found
+    requires { ⌜ Judges (now kind) (now arg) (now first) (now mask) (now follow) root (now text) (now cells) ⌝ }
+    requires { ⌜ Charted (now kind) (now arg) (now null) (now first) (now upto) root ⌝ }
+    requires { ⌜ (256 ≤ rows (now mask)) × (limit ≤ rows (now follow)) ⌝ }
+    ensures { λ r. ⌜ ((e : Re) → Judgeable e (now (kind .entry)) (now (arg .entry)) (now (first .entry)) (now (mask .entry)) (now (follow .entry)) root (now (text .entry)) (now (cells .entry)) → SoughtAs e (now (text .entry)) (now (tree .entry)) (now (tree .exit)) r) ⌝ }
+{
+    let n = text.len();
+    if open_to(null, first, root, Set::load(cells, 0), n == 0) {
+        let w = measure(kind, arg, null, first, upto, root, text, cells);
+        let length = w.length;
+        if length <= tree.len() {
+            walk(kind, arg, null, first, upto, root, text, cells, tree);
+        }
+        return Found::Tree(length, w.other);
+    }
+    Found::NoTree(place(text, mask, follow, Set::load(first, root)))
+}
+
+// For a read pattern whose last node is `root`: fills the tables and the cells, judges, and clears the cells.
+fn find<'a>(
+    kind: &'a [u8; 1024],
+    arg: &'a [u16; 1024],
+    class: &'a [u64; 256],
+    root: usize,
+    positions: usize,
+    text: &[u8],
+    cells: &mut [u64],
+    tree: &mut [u16],
+) -> Found
+    requires { ⌜ Gives (now kind) (now arg) (now class) root positions ⌝ }
+    requires { ⌜ (length (now text) ≤ text-limit) × (length (now text) < length (now cells)) ⌝ }
+    ensures { λ r. ⌜ ((e : Re) → Given e (now (kind .entry)) (now (arg .entry)) (now (class .entry)) root positions → Finds e (now (text .entry)) (now (cells .entry)) (now (cells .exit)) (now (tree .entry)) (now (tree .exit)) r) ⌝ }
+{
+    let mut null = [0u8; 1024];
+    let mut first = [0u64; 1024];
+    let mut upto = [0u16; 1024];
+    let mut follow = [0u64; 64];
+    let last = tables(
+        kind,
+        arg,
+        &mut null,
+        &mut first,
+        &mut upto,
+        &mut follow,
+        root,
+    );
+    let mut mask = [0u64; 256];
+    masks(class, positions, &mut mask);
+    backward(text, &mask, &follow, last, cells);
+    let found = judge(
+        kind,
+        arg,
+        &null,
+        &first,
+        &upto,
+        root,
+        &mask,
+        &follow,
+        text,
+        cells,
+        tree,
+    );
+    clear(cells, text.len());
+    found
+}
+
+// Reads the pattern and finds the first tree of the text: its length, and whether there is another tree, whether or not the room holds it.
+pub fn search(pattern: &[u8], text: &[u8], cells: &mut [u64], tree: &mut [u16]) -> Found
+    ensures { λ r. ⌜ Searched (now (pattern .entry)) (now (text .entry)) (now (cells .entry)) (now (tree .entry)) (number-of r) (value-of r) (flag-of r) (now (cells .exit)) (now (tree .exit)) ⌝ }
+{
+    if PATTERN_LIMIT < pattern.len() {
+        return Found::LongPattern;
+    }
+    if TEXT_LIMIT < text.len() {
+        return Found::LongText;
+    }
+    if cells.len() <= text.len() {
+        return Found::FewCells;
+    }
+    let answer = read(pattern);
+    let reading = answer.reading;
+    match reading {
+        Reading::Read => {
+            let parts = answer.pattern;
+            let root = parts.nodes - 1;
+            find(
+                &parts.kind,
+                &parts.arg,
+                &parts.class,
+                root,
+                parts.positions,
+                text,
+                cells,
+                tree,
+            )
+        }
+        Reading::TooLong => Found::LongPattern,
+        Reading::NoPattern(place) => Found::NoPattern(place),
+        Reading::TooDeep => Found::TooDeep,
+        Reading::ManyPositions => Found::ManyPositions,
+        Reading::ManyMarks => Found::ManyMarks,
+    }
+}

@@ -1,0 +1,40 @@
+// The turn count.
+ghost use mathlib.Core.Path.{_≡_};
+ghost use Rattle.meaning.specs.Promise.{Counted};
+ghost use Rattle.tree.specs.Turns.{number-of, count-of};
+
+// Marks are numbered from 1 up to this.
+pub const MARK_LIMIT: usize = 64;
+
+pub enum TurnCount {
+    Count(usize),
+    NoMark,
+}
+
+// A token, as a number to compare a mark with.
+fn wide(x: u16) -> usize
+    ensures { λ r. ⌜ r ≡ x ⌝ }
+{
+    x as usize
+}
+
+// How many tokens of the row equal the mark.
+pub fn turns(row: &[u16], mark: usize) -> TurnCount
+    ensures { λ r. ⌜ Counted (now (row .entry)) mark (number-of r) (count-of r) ⌝ }
+{
+    if mark < 1 {
+        return TurnCount::NoMark;
+    }
+    if MARK_LIMIT < mark {
+        return TurnCount::NoMark;
+    }
+    let mut n = 0;
+    let mut i = 0;
+    while i < row.len() {
+        if wide(row[i]) == mark {
+            n += 1;
+        }
+        i += 1;
+    }
+    TurnCount::Count(n)
+}
