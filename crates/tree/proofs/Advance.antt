@@ -1,27 +1,24 @@
 -- One byte of the walk along a text, in terms of the code's steps. Assumes nothing.
-use mathlib.Core.Path.{_≡_, refl, sym, ap, _∙_}
-use mathlib.Core.Bool.{Bool, true, false}
+use mathlib.Core.Path.{_≡_, refl, ap, _∙_}
+use mathlib.Core.Bool.{Bool}
 use mathlib.Core.List.{List, [], _∷_}
-use Prim.Native.Nat.{ℕ, suc, _+_, _*_, _≤_, _<_, _^_}
+use Prim.Native.Nat.{ℕ, suc, _+_, _*_, _≤_, _<_}
 use native.Mathlib.Nat.{mul-le-mul}
 use native.Mathlib.Omega.{arith}
 use lib.Dec.{eqb}
 use lib.ListN.{length, getD, drop, length-drop}
-use lib.Seq.{sets}
 use borrow.Author.Tests.{eq-eqb, ne-eqb}
-use Rattle.meaning.specs.Expression.{Re, marks, size}
-use Rattle.laws.specs.Holds.{Holds}
-use Rattle.positions.specs.Alive.{ended, alive}
-use Rattle.positions.specs.Theorem.{found, firstRow, otherTree}
+use Rattle.meaning.specs.Expression.{Re, marks}
+use Rattle.positions.specs.Alive.{ended}
 use Rattle.sets.specs.declared.set.Set.{Set}
-use Rattle.sets.specs.Members.{has, row, rows}
+use Rattle.sets.specs.Members.{has, row}
 use Rattle.walks.specs.declared.step.Step.{Step}
 use Rattle.walks.specs.declared.step.Step.the-variants.{Passed, Stopped}
 use Rattle.walks.specs.Enter.{Ready, EntersAt}
 use Rattle.walks.specs.Resume.{Placed}
 use Rattle.walks.specs.Steps.{noted, cursor}
 use Rattle.tree.specs.declared.walk.Walked.{Walked}
-use Rattle.tree.specs.Walk.{StepsAt, Advances, Walkable, Walks, Writes, other-of}
+use Rattle.tree.specs.Walk.{StepsAt, Advances, Walkable, Writes, other-of}
 use Rattle.tree.proofs.Along.{Along, along-start, along-more, along-stands, along-few, along-end}
 
 -- a step from where s stands

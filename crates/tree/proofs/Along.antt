@@ -2,7 +2,7 @@
 use mathlib.Core.Path.{_≡_, refl, sym, ap, ap₂, _∙_}
 use mathlib.Core.Bool.{Bool, true, false, _||_, or-comm, or-assoc, or-false, false≢true}
 use mathlib.Core.List.{List, [], _∷_, _++_, append-assoc, append-nil}
-use Prim.Native.Nat.{ℕ, suc, _+_, _*_, _≤_, _<_}
+use Prim.Native.Nat.{ℕ, _+_, _*_, _≤_, _<_}
 use native.Mathlib.Nat.{zero-add, add-mul}
 use native.Mathlib.Numerals.{add-one}
 use native.Mathlib.Omega.{arith}
@@ -12,14 +12,13 @@ use Rattle.meaning.specs.Expression.{Re, marks, size}
 use Rattle.meaning.specs.Tree.{letter}
 use Rattle.grammar.specs.Fair.{Fair}
 use Rattle.positions.specs.Alive.{ended, alive, alive-in, alive-on, at-goal}
-use Rattle.positions.specs.Best.{Best}
 use Rattle.positions.specs.EnterBest.{enter-best}
 use Rattle.positions.specs.Positions.{Out, pass, at}
 use Rattle.positions.specs.ResumeBest.{resume-best}
 use Rattle.positions.specs.Room.{spare}
 use Rattle.positions.specs.RunWays.{enter-run-room, resume-run-room}
-use Rattle.positions.specs.Runs.{Run, run, rowOf, outOf, otherOf, andThen, put, enterRun, resumeRun, enter-run-same, resume-run-same}
-use Rattle.positions.specs.Tests.{Ok, ok-at, ok-pass, feasible}
+use Rattle.positions.specs.Runs.{Run, run, rowOf, outOf, otherOf, put, enterRun, resumeRun, enter-run-same, resume-run-same}
+use Rattle.positions.specs.Tests.{Ok, ok-pass}
 use Rattle.positions.specs.Texts.{Text, text, rowIn, otherIn, chain, read, restRun, textRun}
 use Rattle.positions.specs.Theorem.{found, firstRow, otherTree}
 use Rattle.walks.specs.declared.step.Step.{Step}

@@ -13,9 +13,8 @@ use Rattle.tree.specs.declared.search.Found.{Found}
 use Rattle.tree.specs.declared.search.Found.the-variants as found
 use Rattle.tree.specs.declared.first_tree.Outcome.{Outcome}
 use Rattle.tree.specs.declared.first_tree.Outcome.the-variants as outcome
-use Rattle.tree.specs.First.{tell}
 use Rattle.tree.specs.Outcome as told
-use Rattle.tree.specs.Search.{Sought, no-tree, a-tree, Searched, sought, number-of, value-of, flag-of}
+use Rattle.tree.specs.Search.{Sought, no-tree, a-tree, Searched, sought, number-of, value-of, flag-of, tell}
 
 refused-some : {pat : List ℕ} {n v : ℕ} → Refused pat n v → n ≡ 0 → ⊥
 refused-some (not-a-pattern x l) e = omega arith

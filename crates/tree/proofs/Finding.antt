@@ -1,5 +1,5 @@
 -- From a read pattern to exact tables and filled cells. Assumes nothing.
-use mathlib.Core.Path.{_≡_, refl, sym, ap, _∙_}
+use mathlib.Core.Path.{_≡_, sym, ap, _∙_}
 use mathlib.Core.List.{List, [], _∷_, _++_}
 use Prim.Native.Nat.{ℕ, suc, _+_, _≤_, _<_}
 use native.Mathlib.Omega.{arith}
@@ -18,7 +18,7 @@ use Rattle.passes.proofs.Marked.{masked-classes, zeros-empty}
 use Rattle.passes.proofs.Rests.{backed-past}
 use Rattle.passes.specs.Tables.{Tables}
 use Rattle.sets.specs.declared.set.Set.{Set}
-use Rattle.sets.specs.Members.{has, row, rows}
+use Rattle.sets.specs.Members.{row, rows}
 use Rattle.walks.specs.Root.{Root, Tabled}
 use Rattle.tree.specs.declared.search.Found.{Found}
 use Rattle.tree.specs.Judge.{Given, Judgeable, SoughtAs, Finds}

@@ -1,25 +1,25 @@
 -- From exact tables and filled cells to the answer. Assumes nothing.
-use mathlib.Core.Path.{_≡_, refl, sym, ap, ap₂, _∙_}
-use mathlib.Core.Bool.{Bool, true, false, _&&_, _||_, not, cond}
-use mathlib.Core.List.{List, [], _∷_, _++_}
+use mathlib.Core.Path.{_≡_, sym, ap, ap₂, _∙_}
+use mathlib.Core.Bool.{Bool, true, false, _&&_, _||_, cond}
+use mathlib.Core.List.{List, _++_}
 use Prim.Native.Nat.{ℕ, _+_, _≤_, _<_}
 use native.Mathlib.Nat.{zero-add}
 use native.Mathlib.Omega.{arith}
-use lib.Dec.{eqb, leb}
+use lib.Dec.{eqb}
 use lib.ListN.{length, getD, drop}
 use lib.Seq.{sets, sets-eq}
 use borrow.Author.Tests.{le-leb, lt-leb}
-use Rattle.meaning.specs.Expression.{Re, marks, size}
+use Rattle.meaning.specs.Expression.{Re, marks}
 use Rattle.meaning.specs.Promise.{written}
 use Rattle.meaning.specs.Tree.{First, Flag}
-use Rattle.positions.specs.Alive.{ended, alive}
+use Rattle.positions.specs.Alive.{alive}
 use Rattle.positions.specs.Sets.{leads-same}
-use Rattle.positions.specs.Tests.{nullable, leads, feasible}
-use Rattle.positions.specs.Theorem.{found, firstRow, otherTree, no-tree, first-tree, first-flag}
+use Rattle.positions.specs.Tests.{nullable}
+use Rattle.positions.specs.Theorem.{found, firstRow, no-tree, first-tree, first-flag}
 use Rattle.passes.specs.Ways.{readable}
 use Rattle.passes.proofs.Longest.{readable-longest}
 use Rattle.sets.specs.declared.set.Set.{Set}
-use Rattle.sets.specs.Members.{has, row, rows, meets}
+use Rattle.sets.specs.Members.{has, row, meets}
 use Rattle.walks.specs.Enter.{openTo}
 use Rattle.walks.proofs.Looks.{open-is}
 use Rattle.tree.specs.declared.search.Found.the-variants as found-as

@@ -1,14 +1,14 @@
 -- What an answer of the first tree means. Assumes nothing.
-use mathlib.Core.Path.{_≡_, refl, sym, ap, _∙_}
-use mathlib.Core.List.{List, _++_}
+use mathlib.Core.Path.{_≡_, refl}
+use mathlib.Core.List.{List}
 use mathlib.Core.Logic.{_↔_}
-use Prim.Native.Nat.{ℕ, _+_, _≤_, _<_}
+use Prim.Native.Nat.{ℕ, _≤_}
 use native.Mathlib.Omega.{arith}
 use lib.ListN.{length, take, drop}
 use lib.Seq.{take-append-seam}
 use Rattle.meaning.specs.Expression.{Re, marks}
 use Rattle.meaning.specs.Limits.{room-for}
-use Rattle.meaning.specs.Promise.{Refused, not-a-pattern, nested, positions, over-marks, Accepted, Ready, Judged, small-room, Answered, few-cells, written}
+use Rattle.meaning.specs.Promise.{Accepted, Ready, Judged, small-room, Answered, few-cells}
 use Rattle.meaning.specs.Tree.{First, Other, Flag, another, alone, NoTree, erase}
 use Rattle.laws.specs.Promises.{accepted-one, refused-accepted}
 use Rattle.positions.specs.Erased.{erases}

@@ -1,14 +1,14 @@
 -- From the pattern reader's answer to the promise of the search. Assumes nothing.
-use mathlib.Core.Path.{_≡_, refl, sym, ap, _∙_}
+use mathlib.Core.Path.{_≡_, sym, ap, _∙_}
 use mathlib.Core.List.{List}
-use Prim.Native.Nat.{ℕ, suc, _-_, _≤_, _<_}
+use Prim.Native.Nat.{ℕ, _-_, _≤_, _<_}
 use native.Mathlib.Omega.{arith}
 use lib.ListN.{length, getD}
 use mir.Syntax.{w8}
 use mir.Val.{Fits}
 use Rattle.meaning.specs.Expression.{Re}
 use Rattle.meaning.specs.Limits.{pattern-limit, text-limit}
-use Rattle.meaning.specs.Promise.{Ready, Refused, cleared}
+use Rattle.meaning.specs.Promise.{Ready, Refused}
 use Rattle.meaning.specs.ReadPattern.{nodes}
 use Rattle.laws.specs.Accepted.{accepted-fair, accepted-open}
 use Rattle.laws.specs.Holds.{nodes-some}
@@ -20,7 +20,7 @@ use Rattle.pattern.specs.Answers as read
 use Rattle.pattern.proofs.Held.{Held, refusal}
 use Rattle.pattern.proofs.Unique.{Answers}
 use Rattle.tree.specs.declared.search.Found.{Found}
-use Rattle.tree.specs.Judge.{Given, Gives, Finds, SoughtAs}
+use Rattle.tree.specs.Judge.{Given, Gives, Finds}
 use Rattle.tree.specs.Search.{Searched, refused, sought, number-of, value-of, flag-of}
 use Rattle.tree.proofs.Finding.{bytes-of}
 

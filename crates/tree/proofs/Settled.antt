@@ -16,7 +16,7 @@ use Rattle.tree.specs.declared.first_tree.Outcome.{Outcome}
 use Rattle.tree.specs.declared.first_tree.Outcome.the-variants as outcome
 use Rattle.tree.specs.Outcome.{number-of, value-of, flag-of}
 use Rattle.tree.specs.Search as search
-use Rattle.tree.specs.Search.{Sought, no-tree, a-tree, Searched, sought}
+use Rattle.tree.specs.Search.{no-tree, a-tree, Searched, sought}
 use Rattle.tree.proofs.Answers.{plain, fits, long}
 
 -- three numbers, one after the other
@@ -50,12 +50,15 @@ outcome-same (outcome.SmallRoom l) = refl
 outcome-same (outcome.Tree l true) = refl
 outcome-same (outcome.Tree l false) = refl
 
+outcomes : (r r′ : Outcome) → number-of r ≡ number-of r′ → value-of r ≡ value-of r′ → flag-of r ≡ flag-of r′ → r ≡ r′
+outcomes r r′ i j k = sym (outcome-same r) ∙ same-three outcome-of i j k ∙ outcome-same r′
+
 pub outcome-one : {pat text cells room cells₁ cells₂ room₁ room₂ : List ℕ} (r r′ : Outcome)
     → Answered pat text cells room (number-of r) (value-of r) (flag-of r) cells₁ room₁ → Answered pat text cells room (number-of r′) (value-of r′) (flag-of r′) cells₂ room₂
     → (r ≡ r′) × (cells₁ ≡ cells₂) × (room₁ ≡ room₂)
 outcome-one r r′ a a′ =
     let z = answered-one a a′ in
-    (sym (outcome-same r) ∙ same-three outcome-of (z .0 .0) (z .0 .1) (z .0 .2) ∙ outcome-same r′, z .1, z .0 .3)
+    (outcomes r r′ (z .0 .0) (z .0 .1) (z .0 .2), z .1, z .0 .3)
 
 -- ---- the search
 
@@ -95,18 +98,20 @@ room-one {pat} {text} {cells} {room} {cells₁} {cells₂} {room₁} {room₂} {
     go true e h = let z : n ≡ 0 = eqb-true n 0 e in answered-one (long s z h) (long s′ (omega arith) (omega arith)) .0 .3
     go false e h = let k = eqb-false n 0 e in answered-one (plain s k) (plain s′ (λ z. k (i ∙ z))) .0 .3
 
-found-of : ℕ → ℕ → ℕ → Found
-found-of n v f =
-    cond (eqb n 0) (found.Tree v (eqb f 1))
-    (cond (eqb n 1) found.LongPattern
-    (cond (eqb n 2) found.LongText
-    (cond (eqb n 3) found.FewCells
-    (cond (eqb n 4) (found.NoPattern v)
-    (cond (eqb n 5) found.TooDeep
-    (cond (eqb n 6) found.ManyPositions
-    (cond (eqb n 7) found.ManyMarks (found.NoTree v))))))))
+-- the answer of the search that is told so
+found-of : Outcome → Found
+found-of outcome.LongPattern = found.LongPattern
+found-of outcome.LongText = found.LongText
+found-of outcome.FewCells = found.FewCells
+found-of (outcome.NoPattern place) = found.NoPattern place
+found-of outcome.TooDeep = found.TooDeep
+found-of outcome.ManyPositions = found.ManyPositions
+found-of outcome.ManyMarks = found.ManyMarks
+found-of (outcome.NoTree place) = found.NoTree place
+found-of (outcome.SmallRoom l) = found.NoTree l
+found-of (outcome.Tree l o) = found.Tree l o
 
-found-same : (r : Found) → found-of (search.number-of r) (search.value-of r) (search.flag-of r) ≡ r
+found-same : (r : Found) → found-of (search.outcome-of r) ≡ r
 unfolding found-of
 found-same found.LongPattern = refl
 found-same found.LongText = refl
@@ -116,12 +121,11 @@ found-same found.TooDeep = refl
 found-same found.ManyPositions = refl
 found-same found.ManyMarks = refl
 found-same (found.NoTree place) = refl
-found-same (found.Tree l true) = refl
-found-same (found.Tree l false) = refl
+found-same (found.Tree l o) = refl
 
 pub found-one : {pat text cells room cells₁ cells₂ room₁ room₂ : List ℕ} (r r′ : Found)
     → Searched pat text cells room (search.number-of r) (search.value-of r) (search.flag-of r) cells₁ room₁
     → Searched pat text cells room (search.number-of r′) (search.value-of r′) (search.flag-of r′) cells₂ room₂ → (r ≡ r′) × (cells₁ ≡ cells₂) × (room₁ ≡ room₂)
 found-one r r′ s s′ =
     let z = numbers-one s s′ in
-    (sym (found-same r) ∙ same-three found-of (z .0) (z .1) (z .2) ∙ found-same r′, z .3, room-one s s′ (z .0) (z .1))
+    (sym (found-same r) ∙ ap found-of (outcomes (search.outcome-of r) (search.outcome-of r′) (z .0) (z .1) (z .2)) ∙ found-same r′, z .3, room-one s s′ (z .0) (z .1))

@@ -1,7 +1,6 @@
 -- The numbers that the answers stand for, and what the contracts cite.
 pub mod Turns
-pub mod Search
 pub mod Outcome
-pub mod First
+pub mod Search
 pub mod Walk
 pub mod Judge

@@ -1,17 +1,20 @@
 -- The search for the first tree: which number, value and flag may come of an input, and which contents of the lent rows. Where there is a
 -- tree, its length and its flag are said whether or not the room holds its row. Assumes nothing: these are definitions.
-use mathlib.Core.Bool.{cond}
+use mathlib.Core.Bool.{_&&_, cond}
 use mathlib.Core.List.{List}
 use Prim.Native.Nat.{ℕ, _≤_, _<_}
-use lib.Dec.{leb}
+use lib.Dec.{eqb, leb, ltb}
 use lib.ListN.{length}
 use Rattle.meaning.specs.Expression.{Re}
 use Rattle.meaning.specs.Grammar.{Longest}
 use Rattle.meaning.specs.Limits.{pattern-limit, text-limit, cells-for}
 use Rattle.meaning.specs.Promise.{Refused, Accepted, Ready, cleared, written}
 use Rattle.meaning.specs.Tree.{First, Flag, NoTree, Begins}
+use Rattle.tree.specs.declared.first_tree.Outcome.{Outcome}
+use Rattle.tree.specs.declared.first_tree.Outcome.the-variants as outcome
 use Rattle.tree.specs.declared.search.Found.{Found}
 use Rattle.tree.specs.declared.search.Found.the-variants.{LongPattern, LongText, FewCells, NoPattern, TooDeep, ManyPositions, ManyMarks, NoTree as Nothing, Tree}
+use Rattle.tree.specs.Outcome as told
 
 -- the row at the front, if the room holds it
 abbrev pub kept : List ℕ → List ℕ → List ℕ
@@ -31,36 +34,28 @@ pub data Searched (pat text cells room : List ℕ) : ℕ → ℕ → ℕ → Lis
   sought : {e : Re} {n v f : ℕ} {room′ : List ℕ} → Ready pat text cells → Accepted pat e → Sought e text room n v f room′
       → Searched pat text cells room n v f (cleared text cells) room′
 
--- the number, value and flag that an answer stands for
+-- an answer of the search as one of the first tree, in a room that holds the row
+abbrev pub outcome-of : Found → Outcome
+outcome-of LongPattern = outcome.LongPattern
+outcome-of LongText = outcome.LongText
+outcome-of FewCells = outcome.FewCells
+outcome-of (NoPattern place) = outcome.NoPattern place
+outcome-of TooDeep = outcome.TooDeep
+outcome-of ManyPositions = outcome.ManyPositions
+outcome-of ManyMarks = outcome.ManyMarks
+outcome-of (Nothing place) = outcome.NoTree place
+outcome-of (Tree length other) = outcome.Tree length other
+
+-- the number, value and flag that it stands for
 abbrev pub number-of : Found → ℕ
-number-of LongPattern = 1
-number-of LongText = 2
-number-of FewCells = 3
-number-of (NoPattern place) = 4
-number-of TooDeep = 5
-number-of ManyPositions = 6
-number-of ManyMarks = 7
-number-of (Nothing place) = 8
-number-of (Tree length other) = 0
+number-of r = told.number-of (outcome-of r)
 
 abbrev pub value-of : Found → ℕ
-value-of LongPattern = 0
-value-of LongText = 0
-value-of FewCells = 0
-value-of (NoPattern place) = place
-value-of TooDeep = 0
-value-of ManyPositions = 0
-value-of ManyMarks = 0
-value-of (Nothing place) = place
-value-of (Tree length other) = length
+value-of r = told.value-of (outcome-of r)
 
 abbrev pub flag-of : Found → ℕ
-flag-of LongPattern = 0
-flag-of LongText = 0
-flag-of FewCells = 0
-flag-of (NoPattern place) = 0
-flag-of TooDeep = 0
-flag-of ManyPositions = 0
-flag-of ManyMarks = 0
-flag-of (Nothing place) = 0
-flag-of (Tree length other) = cond other 1 0
+flag-of r = told.flag-of (outcome-of r)
+
+-- what is told of it in a room of so many tokens: of a tree whose row the room does not hold, the length alone
+abbrev pub tell : Found → ℕ → Outcome
+tell r room = cond (eqb (number-of r) 0 && ltb room (value-of r)) (outcome.SmallRoom (value-of r)) (outcome-of r)

@@ -5,7 +5,7 @@ use mathlib.Core.List.{List}
 use Prim.Native.Nat.{ℕ, _+_, _≤_, _<_}
 use lib.ListN.{length, drop}
 use lib.Seq.{sets}
-use Rattle.meaning.specs.Expression.{Re, marks, size}
+use Rattle.meaning.specs.Expression.{Re, marks}
 use Rattle.meaning.specs.Limits.{text-limit, mark-limit}
 use Rattle.meaning.specs.Tree.{letter}
 use Rattle.grammar.specs.Fair.{Fair}

@@ -2,7 +2,7 @@
 ghost use mathlib.Core.Path.{_≡_};
 ghost use Rattle.meaning.specs.Promise.{Answered};
 ghost use Rattle.tree.specs.Outcome.{number-of, value-of, flag-of};
-ghost use Rattle.tree.specs.First.{tell};
+ghost use Rattle.tree.specs.Search.{tell};
 use crate::search::Found;
 use crate::search::search;
 

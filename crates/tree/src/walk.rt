@@ -1,7 +1,6 @@
 // The walk along a text, which writes the row of its first tree.
 ghost use mathlib.Core.Path.{_≡_};
-ghost use mathlib.Core.List.{List};
-ghost use Prim.Native.Nat.{ℕ, _+_};
+ghost use Prim.Native.Nat.{_+_};
 ghost use Rattle.meaning.specs.Expression.{Re};
 ghost use Rattle.walks.specs.Resume.{Placed};
 ghost use Rattle.walks.specs.Steps.{cursor};

@@ -1,6 +1,5 @@
 -- `passes::backward::backward` meets its contract. The loop's invariant: the cells from i on are done. Assumes nothing.
-use mathlib.Core.Path.{_≡_, ap, _∙_}
-use Prim.Native.Nat.{_≤_}
+use mathlib.Core.Path.{_∙_}
 use native.Mathlib.Omega.{arith}
 use Rattle.sets.specs.Members.{rows}
 use Rattle.passes.proofs.Rests.{Going, going-none, going-more, going-all}

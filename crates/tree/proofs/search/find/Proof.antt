@@ -1,6 +1,5 @@
 -- `tree::search::find` meets its contract. Assumes nothing.
-use mathlib.Core.Path.{_≡_, refl, sym, ap, _∙_}
-use Prim.Native.Nat.{ℕ, _≤_, _<_}
+use mathlib.Core.Path.{refl, sym}
 use native.Mathlib.Omega.{arith}
 use Rattle.sets.specs.Members.{rows}
 use Rattle.tree.proofs.Finding.{given-root, charted-of, judgeable, cleared-cells, finds}

@@ -1,9 +1,6 @@
 -- `tree::search::judge` meets its contract. Assumes nothing.
 use mathlib.Core.Path.{_≡_, sym, ap, _∙_}
-use mathlib.Core.Bool.{Bool, true, false}
-use Prim.Native.Nat.{ℕ, _≤_, _<_}
 use native.Mathlib.Omega.{arith}
-use lib.ListN as lists
 use Rattle.meaning.specs.Expression.{Re}
 use Rattle.positions.specs.Theorem.{found, firstRow}
 use Rattle.sets.specs.declared.set.Set.{Set}

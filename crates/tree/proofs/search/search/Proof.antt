@@ -1,11 +1,8 @@
 -- `tree::search::search` meets its contract. Assumes nothing.
-use mathlib.Core.Path.{_≡_}
-use Prim.Native.Nat.{ℕ}
 use native.Mathlib.Omega.{arith}
-use Rattle.meaning.specs.Promise.{Ready}
 use Rattle.pattern.specs.declared.Reading.the-variants as reading
 use Rattle.pattern.proofs.Held.{Held, held, too-long}
-use Rattle.tree.specs.Search.{Searched, long-pattern, long-text, few-cells}
+use Rattle.tree.specs.Search.{long-pattern, long-text, few-cells}
 use Rattle.tree.proofs.Searching.{ready, gives, some-node, searched, refuses}
 use borrow.Author.Needs.{needs}
 use Rattle.tree.proofs.search.search.Statement.{statement}

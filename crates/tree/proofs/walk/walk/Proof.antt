@@ -1,5 +1,4 @@
 -- `tree::walk::walk` meets its contract. The loop's invariant: whatever the root holds, the walk has come along i bytes. Assumes nothing.
-use mathlib.Core.Path.{_≡_, refl, sym, ap, _∙_}
 use mathlib.Core.List.{List}
 use Prim.Native.Nat.{ℕ, _+_, _-_, _≤_}
 use native.Mathlib.Omega.{arith}
