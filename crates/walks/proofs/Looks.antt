@@ -2,6 +2,7 @@
 use mathlib.Core.Path.{_≡_, refl, sym, _∙_}
 use mathlib.Core.Bool.{Bool, true, false, not}
 use mathlib.Core.List.{List}
+use mathlib.Core.Logic.{_↔_}
 use Prim.Native.Nat.{ℕ, _≤_}
 use native.Mathlib.Omega.{arith}
 use lib.Dec.{eqb}
@@ -9,7 +10,7 @@ use lib.ListN.{getD}
 use Rattle.meaning.specs.Expression.{Re}
 use Rattle.laws.specs.Holds.{Holds}
 use Rattle.positions.specs.Tests.{leads, feasible, nullable}
-use Rattle.positions.specs.Sets.{meet, leads-meet}
+use Rattle.positions.specs.Sets.{firsts, Meet, meet, leads-meet}
 use Rattle.bits.proofs.Bools.{same}
 use Rattle.sets.specs.declared.set.Set.{Set}
 use Rattle.sets.specs.Members.{has, meets, row}
@@ -17,14 +18,18 @@ use Rattle.sets.proofs.SetLaws.{meets-some, meets-at}
 use Rattle.walks.specs.Tables.{FirstAt, flag}
 use Rattle.walks.specs.Enter.{openTo, Scanned}
 
-pub meets-leads : {ks gs : List ℕ} {m p j : ℕ} {e : Re} (s goal : Set) → FirstAt ks gs j s → Holds ks gs m p j e → meets s goal ≡ leads p e (has goal)
-meets-leads {m = m} {p = p} {e = e} s goal F h = same (meets s goal) (leads p e (has goal)) there back
-  where
-    there : meets s goal ≡ true → leads p e (has goal) ≡ true
-    there z = let w = meets-some s goal z in leads-meet p e (has goal) .1 (meet (sym (F .has-firsts e m p h (w .0)) ∙ w .1) (w .2))
+-- a set with the members that f tells meets the goal where f does
+pub meets-meet : (s goal : Set) (f : ℕ → Bool) → ((q : ℕ) → has s q ≡ f q) → (meets s goal ≡ true) ↔ Meet f (has goal)
+meets-meet s goal f told = (
+  λ z. let w = meets-some s goal z in meet (sym (told (w .0)) ∙ w .1) (w .2),
+  λ z. elim z [ meet {q = q} a b ↦ meets-at s goal q (told q ∙ a) b ],
+)
 
-    back : leads p e (has goal) ≡ true → meets s goal ≡ true
-    back z = elim (leads-meet p e (has goal) .0 z) [ meet {q = q} f g ↦ meets-at s goal q (F .has-firsts e m p h q ∙ f) g ]
+meets-leads : {ks gs : List ℕ} {m p j : ℕ} {e : Re} (s goal : Set) → FirstAt ks gs j s → Holds ks gs m p j e → meets s goal ≡ leads p e (has goal)
+meets-leads {m = m} {p = p} {e = e} s goal F h =
+    let w = meets-meet s goal (firsts p e) (F .has-firsts e m p h) in
+    let l = leads-meet p e (has goal) in
+    same (meets s goal) (leads p e (has goal)) (λ z. l .1 (w .0 z)) (λ z. w .1 (l .0 z))
 
 pub flag-of : (n : Bool) → not (eqb (flag n) 0) ≡ n
 flag-of true = refl
