@@ -1,0 +1,43 @@
+-- How runs of bytes that are put into a row follow one another. Assumes nothing.
+use mathlib.Core.Path.{_≡_, refl, _∙_}
+use mathlib.Core.List.{List, [], _∷_, _++_}
+use Prim.Native.Nat.{ℕ, suc, _+_, _≤_, _<_}
+use native.Mathlib.Nat.{add-suc, suc-add, add-zero}
+use native.Mathlib.Numerals.{add-one}
+use native.Mathlib.Omega.{arith}
+use lib.ListN.{length, take, drop, getD, set, length-append}
+use lib.Seq.{sets, length-sets, sets-eq, take-suc, take-all}
+use Rattle.lines.specs.Wrote.{Wrote}
+
+sets-more : (t : List ℕ) (at : ℕ) (l m : List ℕ) → sets (sets t at l) (at + length l) m ≡ sets t at (l ++ m)
+sets-more t at [] m = rw add-zero
+sets-more t at (a ∷ l) m = rw (add-suc, ← suc-add) (sets-more (set t at a) (suc at) l m)
+
+pub wrote-none : (t : List ℕ) (at : ℕ) → Wrote t at [] t at
+wrote-none t at = record { wrote = refl; moved = omega arith }
+
+-- one run behind another
+pub wrote-then : {t t₁ t₂ : List ℕ} {at r₁ r₂ : ℕ} {l m : List ℕ} → Wrote t at l t₁ r₁ → Wrote t₁ r₁ m t₂ r₂ → Wrote t at (l ++ m) t₂ r₂
+wrote-then {t} {t₁} {t₂} {at} {r₁} {r₂} {l} {m} a b = record {
+  wrote = b .wrote ∙ (rw (a .wrote, a .moved) (sets-more t at l m));
+  moved = rw length-append (omega (arith, a .moved, b .moved));
+}
+
+-- one byte more of a word
+pub word-more : (w : List ℕ) (i : ℕ) {t t₁ t₂ : List ℕ} {at r₁ r₂ : ℕ} → i < length w → Wrote t at (take i w) t₁ r₁ → Wrote t₁ r₁ (getD w i 0 ∷ []) t₂ r₂
+    → Wrote t at (take (i + 1) w) t₂ r₂
+word-more w i h a b = rw (add-one, take-suc w i 0) (wrote-then a b)
+
+pub word-all : (w : List ℕ) (i : ℕ) {t t′ : List ℕ} {at r : ℕ} → length w ≤ i → Wrote t at (take i w) t′ r → Wrote t at w t′ r
+word-all w i h a = rw (take-all i w h) at a
+
+-- the row keeps its length
+pub wrote-kept : {t t′ : List ℕ} {at r : ℕ} {l : List ℕ} → Wrote t at l t′ r → length t′ ≡ length t
+wrote-kept {t} {t′} {at} {r} {l} a = rw (a .wrote) (length-sets t at l)
+
+-- put from the front into a row that holds it
+pub wrote-whole : {t t′ : List ℕ} {r : ℕ} {l : List ℕ} → Wrote t 0 l t′ r → length l ≤ length t → t′ ≡ l ++ drop (length l) t
+wrote-whole {t} {t′} {r} {l} a h =
+    let h′ : 0 + length l ≤ length t = omega arith in
+    let z : 0 + length l ≡ length l = omega arith in
+    a .wrote ∙ (rw z at (sets-eq l t 0 h′))

@@ -1,0 +1,50 @@
+-- `lines::desk::answered` meets its contract. Assumes nothing.
+use borrow.Author.Needs.{needs}
+use Rattle.lines.proofs.AnswerLaws.{answer-fits, answer-of}
+use Rattle.lines.proofs.desk.answered.Statement.{statement}
+use Rattle.lines.proofs.desk.answered.Tie as tie
+
+slice-aggregate-first-tree : tie.Need-slice-aggregate-first-tree
+slice-aggregate-first-tree c = search needs
+
+slice-aggregate-first-tree-2 : tie.Need-slice-aggregate-first-tree-2
+slice-aggregate-first-tree-2 c = search needs
+
+first-tree-requires : tie.Need-first-tree-requires
+first-tree-requires c κs = search needs
+
+number-requires : tie.Need-number-requires
+number-requires c κs = search needs
+
+value-requires : tie.Need-value-requires
+value-requires c κs = search needs
+
+flag-requires : tie.Need-flag-requires
+flag-requires c κs = search needs
+
+slice-aggregate-answer : tie.Need-slice-aggregate-answer
+slice-aggregate-answer c = search needs
+
+answer-requires : tie.Need-answer-requires
+answer-requires c κs = (search needs, answer-fits (c .before .before .before .before .before .before .before .first-tree .ensures) (c .before .before .before .number .ensures) (c .before .before .value .ensures))
+
+same-length : tie.Need-same-length
+same-length c = search needs
+
+returns : tie.Need-returns
+returns c = answer-of (c .before .before .before .before .before .before .before .before .before .before .first-tree .ensures) (c .before .before .before .before .before .before .number .ensures) (c .before .before .before .before .before .value .ensures) (c .before .before .before .before .flag .ensures) (c .before .before .answer .ensures .0) (c .before .before .answer .ensures .1)
+
+pub answered-spec : {M : Type 1} → statement M
+answered-spec =
+    tie.close
+    (tie.spec
+    slice-aggregate-first-tree
+    slice-aggregate-first-tree-2
+    first-tree-requires
+    number-requires
+    value-requires
+    flag-requires
+    slice-aggregate-answer
+    answer-requires
+    same-length
+    returns)

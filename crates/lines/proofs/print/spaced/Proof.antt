@@ -1,0 +1,22 @@
+-- `lines::print::spaced` meets its contract. Assumes nothing.
+use native.Mathlib.Omega.{arith}
+use borrow.Author.Needs.{needs}
+use Rattle.lines.proofs.WroteLaws.{wrote-then}
+use Rattle.lines.proofs.DeskLaws.{digits-length}
+use Rattle.lines.proofs.print.spaced.Statement.{statement}
+use Rattle.lines.proofs.print.spaced.Tie as tie
+
+put-requires : tie.Need-put-requires
+put-requires c κs = search needs
+
+decimal-requires : tie.Need-decimal-requires
+decimal-requires c κs = search needs
+
+same-length : tie.Need-same-length
+same-length c = search needs
+
+returns : tie.Need-returns
+returns c = (wrote-then (c .before .before .before .before .before .before .put .ensures) (c .before .before .decimal .ensures), omega (arith, digits-length 20 (c .before .before .before .before .before .before .before .before .before .args .n), c .before .before .before .before .before .before .put .ensures .moved, c .before .before .decimal .ensures .moved))
+
+pub spaced-spec : {M : Type 1} → statement M
+spaced-spec = tie.close (tie.spec put-requires decimal-requires same-length returns)
