@@ -1,0 +1,21 @@
+-- What the call of the measuring program answers: number, flag and value of the first tree's answer in one number.
+use mathlib.Core.Path.{_≡_}
+use mathlib.Core.List.{List}
+use Prim.Native.Nat.{ℕ, _+_, _*_, _%_}
+use Rattle.meaning.specs.Promise.{Answered}
+use Rattle.tree.specs.Outcome.{number-of, value-of, flag-of}
+use Rattle.tree.specs.declared.first_tree.Outcome.{Outcome}
+
+-- number + 16 · flag + 32 · value; no value reaches 2³²
+abbrev pub joined : ℕ → ℕ → ℕ → ℕ
+joined n v f = n + 16 * f + 32 * (v % 4294967296)
+
+abbrev pub packed : Outcome → ℕ
+packed r = joined (number-of r) (value-of r) (flag-of r)
+
+pub record Packed (pat text cells room : List ℕ) (r : ℕ) (cells′ room′ : List ℕ) : Type 0 where
+  pub number : ℕ
+  pub value : ℕ
+  pub flag : ℕ
+  pub answered : Answered pat text cells room number value flag cells′ room′
+  pub in-one : r ≡ joined number value flag
