@@ -8,3 +8,4 @@ pub mod Advance
 pub mod Judging
 pub mod Finding
 pub mod Searching
+pub mod Lent

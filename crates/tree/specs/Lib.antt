@@ -4,3 +4,4 @@ pub mod Outcome
 pub mod Search
 pub mod Walk
 pub mod Judge
+pub mod Lending
