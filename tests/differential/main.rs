@@ -228,9 +228,12 @@ fn report(options: &Options, totals: &mut Totals) {
 }
 
 fn main() -> ExitCode {
-    let Some(options) = options() else {
-        eprintln!("usage: differential --desk WORD.. --host WORD.. [--seed N] [--cases N] [--desk-every N] [--only N]");
-        return ExitCode::from(64);
+    let options = match options() {
+        Some(options) => options,
+        None => {
+            eprintln!("usage: differential --desk WORD.. --host WORD.. [--seed N] [--cases N] [--desk-every N] [--only N]");
+            return ExitCode::from(64);
+        }
     };
     println!("differential: seed {}, {} cases, all through the call, one of {} through the desk", options.seed, options.cases, options.desk_every);
     let run = match options.only {

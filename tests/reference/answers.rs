@@ -41,7 +41,10 @@ enum Judged {
 
 /// The answers 4 to 7, or the expression.
 fn accepted(pattern: &[u8]) -> Result<pattern::Expression, Answer> {
-    let Some(expression) = pattern::read(pattern) else { return Err(refused(4, pattern::place(pattern))) };
+    let expression = match pattern::read(pattern) {
+        Some(expression) => expression,
+        None => return Err(refused(4, pattern::place(pattern))),
+    };
     if expression.nesting > NESTING_LIMIT {
         return Err(refused(5, 0));
     }

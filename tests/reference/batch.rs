@@ -10,8 +10,9 @@ pub fn put_case(batch: &mut Vec<u8>, pattern: &[u8], text: &[u8]) {
 
 /// The part that `rest` starts with, and what is after it.
 fn take_part(rest: &[u8]) -> Option<(&[u8], &[u8])> {
-    let (length, rest) = rest.split_first_chunk::<4>()?;
-    rest.split_at_checked(u32::from_le_bytes(*length) as usize)
+    let length = rest.get(..4)?.try_into().ok()?;
+    let end = 4 + u32::from_le_bytes(length) as usize;
+    Some((rest.get(4..end)?, &rest[end..]))
 }
 
 /// The cases of a batch, or nothing if it breaks off.

@@ -82,7 +82,7 @@ impl<'a> Stretches<'a> {
     }
 
     fn reads(&self, bytes: &[bool; 256], start: usize) -> bool {
-        self.text.get(start).is_some_and(|&byte| bytes[byte as usize])
+        self.text.get(start).map_or(false, |&byte| bytes[byte as usize])
     }
 
     /// Where a tree of `part` that starts at `start` may end.
@@ -142,7 +142,10 @@ impl<'a> Stretches<'a> {
         if let Some(known) = self.turns.get(&(part, start)) {
             return Ok(known.clone());
         }
-        let Part::Repeat(_, _, atom) = self.expression.parts[part] else { unreachable!("only a repeated item has turns") };
+        let atom = match self.expression.parts[part] {
+            Part::Repeat(_, _, atom) => atom,
+            _ => unreachable!("only a repeated item has turns"),
+        };
         let mut gathered = Gathered::one(self.text.len(), start);
         for middle in self.ends(atom, start)?.each().filter(|&middle| middle > start) {
             let ends = self.turns_end(part, middle)?;
@@ -263,7 +266,7 @@ impl Keeper for Every {
         if one.is_empty() {
             return Ok(other);
         }
-        let mut rows = Rc::unwrap_or_clone(one);
+        let mut rows = Rc::try_unwrap(one).unwrap_or_else(|shared| (*shared).clone());
         for row in other.iter() {
             self.left = self.left.checked_sub(row.0.len() + 1).ok_or(TooMuch)?;
             rows.insert(row.clone());
@@ -349,7 +352,10 @@ impl FirstTwo {
 
     /// The first two of the rows kept and one more.
     fn with_row(&mut self, kept: <FirstTwo as Keeper>::Rows, row: Name) -> Result<<FirstTwo as Keeper>::Rows, TooMuch> {
-        let (Some(first), second) = kept else { return Ok((Some(row), None)) };
+        let (first, second) = match kept {
+            (Some(first), second) => (first, second),
+            _ => return Ok((Some(row), None)),
+        };
         match self.order(row, first)? {
             Ordering::Equal => Ok(kept),
             Ordering::Less => Ok((Some(row), Some(first))),
@@ -395,7 +401,10 @@ impl Keeper for FirstTwo {
 
     fn joined(&mut self, one: &Self::Rows, other: &Self::Rows) -> Result<Self::Rows, TooMuch> {
         self.spend(1)?;
-        let (Some(front), Some(back)) = (one.0, other.0) else { return Ok((None, None)) };
+        let (front, back) = match (one.0, other.0) {
+            (Some(front), Some(back)) => (front, back),
+            _ => return Ok((None, None)),
+        };
         let first = self.join(front, back);
         let second = match (other.1, one.1) {
             (Some(later), _) => Some(self.join(front, later)),
