@@ -103,7 +103,7 @@ fn judged(options: &Options, number: u64) -> Result<Judged, String> {
         number,
         desk_wanted: answer.as_ref().map(lines),
         answer: answer.as_ref().map(|answer| (answer.number, answer.flag)),
-        every_tree_written: answer.is_some_and(|answer| answer.every_tree_written),
+        every_tree_written: answer.map_or(false, |answer| answer.every_tree_written),
         verdict_wanted: verdict(&case.pattern, &case.text, Effort { tokens: 0, ..EFFORT }).ok(),
         desk_wrote: if is_run { Some(run::output_of(&options.desk, &case.input)?) } else { None },
         case,
