@@ -1,4 +1,4 @@
-// Reads 512 open parentheses, the deepest that the reader goes. It runs in 400 KB of stack.
+// Reads 512 open parentheses, the deepest that the reader goes; tests/stack says in how much stack it runs.
 use libc::STDOUT_FILENO;
 use pattern::Reading;
 

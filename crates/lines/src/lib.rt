@@ -1,5 +1,5 @@
 // What the desk writes: the whole desk as a function from input bytes to output bytes.
 pub mod desk;
-mod outcome;
+pub mod outcome;
 pub mod parts;
-mod print;
+pub mod print;

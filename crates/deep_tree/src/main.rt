@@ -1,0 +1,31 @@
+// The longest text, 4,096 letters, with the pattern that is deepest to read, 512 open parentheses, and with the deepest that is read, 64
+// groups, each with a mark. The first line of each answer is printed; tests/stack says in how much stack it runs.
+use libc::STDOUT_FILENO;
+use lines::outcome::flag;
+use lines::outcome::number;
+use lines::outcome::value;
+use tree::first_tree::Outcome;
+use tree::first_tree::first_tree;
+
+fn spaced(n: usize) {
+    io::write_all(STDOUT_FILENO, b" ");
+    io::print_decimal(STDOUT_FILENO, n as u64);
+}
+
+fn show(got: Outcome) {
+    io::write_all(STDOUT_FILENO, b"ANSWER");
+    spaced(number(got));
+    spaced(value(got));
+    spaced(flag(got));
+    io::write_all(STDOUT_FILENO, b"\n");
+}
+
+fn main() {
+    let pattern =
+        b"((((((((((((((((((((((((((((((((((((((((((((((((((((((((((((((((a)*)*)*)*)*)*)*)*)*)*)*)*)*)*)*)*)*)*)*)*)*)*)*)*)*)*)*)*)*)*)*)*)*)*)*)*)*)*)*)*)*)*)*)*)*)*)*)*)*)*)*)*)*)*)*)*)*)*)*)*)*)*)*)*";
+    let text = [b'a'; 4096];
+    let mut cells = [0u64; 4097];
+    let mut room = [0u16; 12414];
+    show(first_tree(&[b'('; 512], &text, &mut cells, &mut room));
+    show(first_tree(pattern, &text, &mut cells, &mut room));
+}

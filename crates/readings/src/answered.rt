@@ -1,0 +1,68 @@
+// What is answered, printed.
+use libc::STDOUT_FILENO;
+use lines::outcome::flag;
+use lines::outcome::number as numbered;
+use lines::outcome::value;
+use lines::print::answer_line;
+use lines::print::tree_line;
+use tree::first_tree::Outcome;
+use tree::turns::TurnCount;
+
+// A row of more tokens is not printed.
+const SHORT: usize = 16;
+
+pub fn say(w: &[u8]) {
+    io::write_all(STDOUT_FILENO, w);
+}
+
+pub fn number(n: usize) {
+    io::print_decimal(STDOUT_FILENO, n as u64);
+}
+
+// The first n bytes.
+fn said(out: &[u8], n: usize) {
+    if n <= out.len() {
+        say(&out[..n]);
+    }
+}
+
+fn line_one(n: usize, v: usize, f: usize) {
+    let mut out = [0u8; 70];
+    let end = answer_line(&mut out, 0, n, v, f);
+    said(&out, end);
+}
+
+fn line_two(row: &[u16], n: usize) {
+    let mut out = [0u8; 128];
+    if n <= SHORT {
+        if n <= row.len() {
+            let end = tree_line(&mut out, 0, row, n);
+            said(&out, end);
+        }
+    }
+}
+
+pub fn show(got: Outcome, room: &[u16]) {
+    let n = numbered(got);
+    let v = value(got);
+    line_one(n, v, flag(got));
+    if n == 0 {
+        line_two(room, v);
+    }
+}
+
+fn turns_line(n: usize, count: usize) {
+    say(b"TURNS ");
+    number(n);
+    say(b" ");
+    number(count);
+    say(b"\n");
+}
+
+// The number 0 and the count, or 10.
+pub fn counted(got: TurnCount) {
+    match got {
+        TurnCount::Count(count) => turns_line(0, count),
+        TurnCount::NoMark => turns_line(10, 0),
+    }
+}

@@ -1,0 +1,78 @@
+// The readings of the rules that no theorem states: each is one line below, and prints what is asked and what is answered.
+mod answered;
+mod asked;
+
+use asked::desk;
+use asked::grown;
+use asked::lent;
+use asked::letters;
+use asked::plain;
+use asked::turned;
+
+// With the length of the longest beginning that begins a pattern.
+fn not_patterns() {
+    plain(b"", b"");
+    plain(b"a**", b"");
+    plain(b"(a", b"");
+    plain(b")", b"");
+    plain(b"[]", b"");
+    plain(b"[z-a]", b"");
+    plain(b"[a-]", b"");
+    plain(b"a\\", b"");
+}
+
+// With the length of the longest beginning that begins a text with a tree.
+fn not_trees() {
+    plain(b"a.c", b"axd");
+    plain(b"a.c", b"ax");
+    plain(b"a.c", b"axcc");
+}
+
+// Limits, each reached and passed: bytes of a pattern and of a text.
+fn bytes() {
+    grown(b"()", b"", b"", 256, 0);
+    grown(b"()", b"", b"", 257, 0);
+    letters(b"a*", 4096);
+    letters(b"a*", 4097);
+}
+
+// Positions, nesting, and both at once, where nesting is told.
+fn positions() {
+    grown(b"a", b"", b"", 64, 64);
+    grown(b"a", b"", b"", 65, 65);
+    grown(b"(", b"a", b")", 64, 1);
+    grown(b"(", b"a", b")", 65, 1);
+    grown(b"(a", b"", b")", 65, 65);
+}
+
+// Marks.
+fn marks() {
+    grown(b"(", b"a?", b")?", 63, 1);
+    grown(b"(", b"a?", b")?", 64, 1);
+}
+
+// Tree room and work cells, one too few and just enough.
+fn loans() {
+    lent(b"a+", b"aa", 3, 5);
+    lent(b"a+", b"aa", 3, 6);
+    lent(b"a+", b"aa", 2, 6);
+}
+
+// The turn count of a row.
+fn turn_counts() {
+    turned(0);
+    turned(1);
+    turned(64);
+    turned(65);
+}
+
+fn main() {
+    not_patterns();
+    not_trees();
+    bytes();
+    positions();
+    marks();
+    loans();
+    turn_counts();
+    desk(b"(a|ab)b?\nab");
+}
