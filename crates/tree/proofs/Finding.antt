@@ -36,7 +36,7 @@ charted-of T = record { scanned = T .scanned; upto = T .upto }
 pub cleared-cells : {mask follow text l m m′ : List ℕ} {ends : Set} → Backed mask follow ends text l m → m′ ≡ replicate (length text + 1) 0 ++ drop (length text + 1) m → m′ ≡ cleared text l
 cleared-cells {text = text} B e = e ∙ ap (λ (r : List ℕ). replicate (length text + 1) 0 ++ r) (backed-past B)
 
-module _ {e : Re} {ks gs cs : List ℕ} {root n : ℕ} (G : Given e ks gs cs root n) where
+module _ {e : Re} {ks gs cs : List ℕ} {root n k : ℕ} (G : Given e ks gs cs root n k) where
   pub given-root : Root ks gs root
   given-root = record { e = e; holds = G .holds; all = G .all; within = G .within; few = G .few-positions }
 
@@ -49,17 +49,18 @@ module _ {e : Re} {ks gs cs : List ℕ} {root n : ℕ} (G : Given e ks gs cs roo
       beginning = λ q. T .scanned .first root (omega arith) .has-firsts e 0 0 (G .holds) q;
     }
 
-    pub judgeable : {text l m : List ℕ} → Backed mask ts last text l m → ((i : ℕ) → Fits w8 (getD text i 0)) → length text ≤ text-limit → length text < rows l → Judgeable e ks gs fs mask ts root text m
+    pub judgeable : {text l m : List ℕ} → Backed mask ts last text l m → ((i : ℕ) → Fits w8 (getD text i 0)) → length text ≤ text-limit → length text < rows l → Judgeable e ks gs fs mask ts root k text m
     judgeable {text} {l} {m} B b s h = record {
       holds = G .holds;
       within = G .within;
       fair = G .fair;
       can-read = G .can-read;
       few-marks = G .few-marks;
+      marks-are = G .marks-are;
       bytes = bytes-of text b;
       short = s;
       enough = omega (arith, B .same-rows);
-      living = λ i q k. B .here i q k ∙ living-alive e mask ts last (row fs root) exact (bytes-of (drop i text) (λ j. rw (getD-drop i text j 0) (b (i + j)))) q;
+      living = λ i q w. B .here i q w ∙ living-alive e mask ts last (row fs root) exact (bytes-of (drop i text) (λ j. rw (getD-drop i text j 0) (b (i + j)))) q;
       last = last;
       tables = exact;
     }

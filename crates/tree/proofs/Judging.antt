@@ -10,9 +10,11 @@ use lib.ListN.{length, getD, drop}
 use lib.Seq.{sets, sets-eq}
 use borrow.Author.Tests.{le-leb, lt-leb}
 use Rattle.meaning.specs.Expression.{Re, marks}
+use Rattle.meaning.specs.Limits.{room-for}
 use Rattle.meaning.specs.Promise.{written}
 use Rattle.meaning.specs.Tree.{First, Flag}
 use Rattle.positions.specs.Alive.{alive}
+use Rattle.positions.specs.Room.{row-length}
 use Rattle.positions.specs.Sets.{leads-same}
 use Rattle.positions.specs.Tests.{nullable}
 use Rattle.positions.specs.Theorem.{found, firstRow, no-tree, first-tree, first-flag}
@@ -42,7 +44,7 @@ kept-none row t h = ap (λ (b : Bool). cond b (written row t) t) (sym (lt-leb (l
 sought-tree : {e : Re} {text row t t′ : List ℕ} {v f f′ : ℕ} → First e text row → Flag e text f → v ≡ length row → f′ ≡ f → t′ ≡ kept row t → Sought e text t 0 v f′ t′
 sought-tree a b i j k = rw (i, j, k) (search.a-tree a b)
 
-module _ {e : Re} {ks gs fs mask follow text cells : List ℕ} {root : ℕ} (J : Judgeable e ks gs fs mask follow root text cells) where
+module _ {e : Re} {ks gs fs mask follow text cells : List ℕ} {root k : ℕ} (J : Judgeable e ks gs fs mask follow root k text cells) where
   few : marks e ≤ 127
   few = omega (arith, J .few-marks)
 
@@ -58,6 +60,13 @@ module _ {e : Re} {ks gs fs mask follow text cells : List ℕ} {root : ℕ} (J :
 
   pub judge-tree : {t t′ : List ℕ} {w : Walked} → found e text ≡ true → Measures e text w → t′ ≡ kept (firstRow e text) t → SoughtAs e text t t′ (found-as.Tree (w .length) (w .other))
   judge-tree y M z = sought-tree (first-tree e (J .fair) few text y) (first-flag e (J .fair) few text y) (M .long) (ap (λ (b : Bool). cond b 1 0) (M .other)) z
+
+  -- a room for every tree holds the first
+  pub judge-fits : {r l : ℕ} → found e text ≡ true → r ≡ room-for k (length text) → r ≤ l → length (firstRow e text) ≤ l
+  judge-fits {r} {l} y z h =
+      let i : room-for k (length text) ≤ l = omega arith in
+      let j : room-for (marks e) (length text) ≤ l = rw (J .marks-are) at i in
+      omega (arith, j, row-length e 0 text (firstRow e text) (first-tree e (J .fair) few text y .tree))
 
   pub judge-none : {t : List ℕ} {n : ℕ} → found e text ≡ false → n ≡ readable mask follow (has (row fs root)) text → SoughtAs e text t t (found-as.NoTree n)
   judge-none y z = rw z (search.no-tree (no-tree e text y) (readable-longest e (J .can-read) mask follow (J .last) (row fs root) (J .tables) text (J .bytes)))

@@ -30,7 +30,7 @@ ready h k l = record { short-pattern = h; short-text = k; cells-enough = omega a
 
 module _ {pat : List ℕ} {P : ReadPattern} (bytes : (i : ℕ) → Fits w8 (getD pat i 0)) (H : Held pat P) where
   -- the read pattern holds what the pattern denotes
-  given-of : Given (H .denotes) (P .kind) (P .arg) (P .class) (P .nodes - 1) (P .positions)
+  given-of : Given (H .denotes) (P .kind) (P .arg) (P .class) (P .nodes - 1) (P .positions) (P .marks)
   unfolding classed
   given-of =
       let h = H .holding in
@@ -44,17 +44,18 @@ module _ {pat : List ℕ} {P : ReadPattern} (bytes : (i : ℕ) → Fits w8 (getD
         few-marks = H .accepted .few-marks;
         few-positions = H .accepted .few-positions;
         positions-are = h .positions-are;
+        marks-are = h .marks-are;
         classes = h .classes;
       }
 
-  pub gives : Gives (P .kind) (P .arg) (P .class) (P .nodes - 1) (P .positions)
+  pub gives : Gives (P .kind) (P .arg) (P .class) (P .nodes - 1) (P .positions) (P .marks)
   gives = record { e = H .denotes; given = given-of }
 
   pub some-node : 1 ≤ P .nodes
   some-node = omega (arith, H .holding .nodes-are, nodes-some (H .denotes))
 
   pub searched : {text cells cells′ t t′ : List ℕ} {r : Found} → Ready pat text cells
-      → ((e : Re) → Given e (P .kind) (P .arg) (P .class) (P .nodes - 1) (P .positions) → Finds e text cells cells′ t t′ r)
+      → ((e : Re) → Given e (P .kind) (P .arg) (P .class) (P .nodes - 1) (P .positions) (P .marks) → Finds e text cells cells′ t t′ r)
       → Searched pat text cells t (number-of r) (value-of r) (flag-of r) cells′ t′
   searched g f = let x = f (H .denotes) given-of in rw (x .clear) (sought g (H .accepted) (x .sought))
 

@@ -22,8 +22,8 @@ use Rattle.tree.specs.declared.search.Found.{Found}
 use Rattle.tree.specs.declared.walk.Walked.{Walked}
 use Rattle.tree.specs.Search.{Sought, number-of, value-of, flag-of}
 
--- the read pattern holds e, which is within the limits and whose n positions have these classes
-pub record Given (e : Re) (ks gs cs : List ℕ) (root n : ℕ) : Type 0 where
+-- the read pattern holds e, which is within the limits, has k marks, and whose n positions have these classes
+pub record Given (e : Re) (ks gs cs : List ℕ) (root n k : ℕ) : Type 0 where
   pub holds : Holds ks gs 0 0 root e
   pub all : nodes e ≡ suc root
   pub within : root < 1024
@@ -32,20 +32,22 @@ pub record Given (e : Re) (ks gs cs : List ℕ) (root n : ℕ) : Type 0 where
   pub few-marks : marks e ≤ mark-limit
   pub few-positions : size e ≤ position-limit
   pub positions-are : n ≡ size e
+  pub marks-are : k ≡ marks e
   pub classes : (q b : ℕ) → b < 256 → reads 0 e q b ≡ classed cs n q b
 
 -- for some e
-pub record Gives (ks gs cs : List ℕ) (root n : ℕ) : Type 0 where
+pub record Gives (ks gs cs : List ℕ) (root n k : ℕ) : Type 0 where
   pub e : Re
-  pub given : Given e ks gs cs root n
+  pub given : Given e ks gs cs root n k
 
 -- the same with exact tables, and cells that hold the positions that are alive at each place of the text
-pub record Judgeable (e : Re) (ks gs fs mask follow : List ℕ) (root : ℕ) (text cells : List ℕ) : Type 0 where
+pub record Judgeable (e : Re) (ks gs fs mask follow : List ℕ) (root k : ℕ) (text cells : List ℕ) : Type 0 where
   pub holds : Holds ks gs 0 0 root e
   pub within : root < 1024
   pub fair : Fair e
   pub can-read : Open e
   pub few-marks : marks e ≤ mark-limit
+  pub marks-are : k ≡ marks e
   pub bytes : Bytes text
   pub short : length text ≤ text-limit
   pub enough : length text < rows cells
@@ -54,9 +56,9 @@ pub record Judgeable (e : Re) (ks gs fs mask follow : List ℕ) (root : ℕ) (te
   pub tables : Tables e mask follow last (row fs root)
 
 -- for some e
-pub record Judges (ks gs fs mask follow : List ℕ) (root : ℕ) (text cells : List ℕ) : Type 0 where
+pub record Judges (ks gs fs mask follow : List ℕ) (root k : ℕ) (text cells : List ℕ) : Type 0 where
   pub e : Re
-  pub judgeable : Judgeable e ks gs fs mask follow root text cells
+  pub judgeable : Judgeable e ks gs fs mask follow root k text cells
 
 -- the length of the first tree's row, and whether there is another tree
 pub record Measures (e : Re) (text : List ℕ) (r : Walked) : Type 0 where

@@ -7,6 +7,7 @@ ghost use Rattle.sets.specs.Members.{limit, rows};
 ghost use Rattle.tree.specs.Search.{Searched, number-of, value-of, flag-of};
 ghost use Rattle.tree.specs.Walk.{Charted, Walkable, Walks};
 ghost use Rattle.tree.specs.Judge.{Given, Gives, Judgeable, Judges, Measures, SoughtAs, Finds};
+use crate::room::room_for;
 use crate::walk::Walked;
 use crate::walk::walk;
 use passes::backward::backward;
@@ -54,7 +55,8 @@ fn measure<'a>(
     walk(kind, arg, null, first, upto, root, text, cells, &mut none)
 }
 
-// With the cells filled: is there a tree? Its row goes into the room if that holds it.
+// With the cells filled: is there a tree? Its row goes into the room if that holds it. A room that holds every tree is written at once;
+// else the row is measured first, since a room that does not hold it stays as it is.
 fn judge<'a>(
     kind: &'a [u8; 1024],
     arg: &'a [u16; 1024],
@@ -62,19 +64,24 @@ fn judge<'a>(
     first: &'a [u64; 1024],
     upto: &'a [u16; 1024],
     root: usize,
+    marks: usize,
     mask: &[u64; 256],
     follow: &[u64; 64],
     text: &[u8],
     cells: &[u64],
     tree: &mut [u16],
 ) -> Found
-    requires { ⌜ Judges (now kind) (now arg) (now first) (now mask) (now follow) root (now text) (now cells) ⌝ }
+    requires { ⌜ Judges (now kind) (now arg) (now first) (now mask) (now follow) root marks (now text) (now cells) ⌝ }
     requires { ⌜ Charted (now kind) (now arg) (now null) (now first) (now upto) root ⌝ }
     requires { ⌜ (256 ≤ rows (now mask)) × (limit ≤ rows (now follow)) ⌝ }
-    ensures { λ r. ⌜ ((e : Re) → Judgeable e (now (kind .entry)) (now (arg .entry)) (now (first .entry)) (now (mask .entry)) (now (follow .entry)) root (now (text .entry)) (now (cells .entry)) → SoughtAs e (now (text .entry)) (now (tree .entry)) (now (tree .exit)) r) ⌝ }
+    ensures { λ r. ⌜ ((e : Re) → Judgeable e (now (kind .entry)) (now (arg .entry)) (now (first .entry)) (now (mask .entry)) (now (follow .entry)) root marks (now (text .entry)) (now (cells .entry)) → SoughtAs e (now (text .entry)) (now (tree .entry)) (now (tree .exit)) r) ⌝ }
 {
     let n = text.len();
     if open_to(null, first, root, Set::load(cells, 0), n == 0) {
+        if room_for(marks, n) <= tree.len() {
+            let w = walk(kind, arg, null, first, upto, root, text, cells, tree);
+            return Found::Tree(w.length, w.other);
+        }
         let w = measure(kind, arg, null, first, upto, root, text, cells);
         let length = w.length;
         if length <= tree.len() {
@@ -92,13 +99,14 @@ fn find<'a>(
     class: &'a [u64; 256],
     root: usize,
     positions: usize,
+    marks: usize,
     text: &[u8],
     cells: &mut [u64],
     tree: &mut [u16],
 ) -> Found
-    requires { ⌜ Gives (now kind) (now arg) (now class) root positions ⌝ }
+    requires { ⌜ Gives (now kind) (now arg) (now class) root positions marks ⌝ }
     requires { ⌜ (length (now text) ≤ text-limit) × (length (now text) < length (now cells)) ⌝ }
-    ensures { λ r. ⌜ ((e : Re) → Given e (now (kind .entry)) (now (arg .entry)) (now (class .entry)) root positions → Finds e (now (text .entry)) (now (cells .entry)) (now (cells .exit)) (now (tree .entry)) (now (tree .exit)) r) ⌝ }
+    ensures { λ r. ⌜ ((e : Re) → Given e (now (kind .entry)) (now (arg .entry)) (now (class .entry)) root positions marks → Finds e (now (text .entry)) (now (cells .entry)) (now (cells .exit)) (now (tree .entry)) (now (tree .exit)) r) ⌝ }
 {
     let mut null = [0u8; 1024];
     let mut first = [0u64; 1024];
@@ -123,6 +131,7 @@ fn find<'a>(
         &first,
         &upto,
         root,
+        marks,
         &mask,
         &follow,
         text,
@@ -158,6 +167,7 @@ pub fn search(pattern: &[u8], text: &[u8], cells: &mut [u64], tree: &mut [u16]) 
                 &parts.class,
                 root,
                 parts.positions,
+                parts.marks,
                 text,
                 cells,
                 tree,
