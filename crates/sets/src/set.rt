@@ -1,6 +1,6 @@
 // A set of positions below the limit, in one word. Contracts speak of members alone, so that a limit of two words moves no caller.
 ghost use mathlib.Core.Path.{_≡_};
-ghost use mathlib.Core.Bool.{false, _&&_, _||_, not};
+ghost use mathlib.Core.Bool.{true, false, _&&_, _||_, not};
 ghost use Prim.Native.Nat.{ℕ, _<_};
 ghost use lib.Dec.{eqb};
 ghost use Rattle.sets.specs.Members.{has, limit, size, vacant, meets, Least, rows, row, Stored};
@@ -80,6 +80,16 @@ impl Set {
         ensures { λ r. ⌜ r ≡ vacant self ⌝ }
     {
         self.bits == 0
+    }
+
+    // Have both the same members? A yes is sure.
+    pub fn same(self, other: Set) -> bool
+        ensures { λ r. ⌜ (r ≡ true → (q : ℕ) → has self q ≡ has other q) ⌝ }
+    {
+        if self.bits == other.bits {
+            return true;
+        }
+        false
     }
 
     // Is there a member in both?

@@ -29,8 +29,8 @@ pub bytes-of : (l : List ℕ) → ((i : ℕ) → Fits w8 (getD l i 0)) → Bytes
 bytes-of [] h = no-byte
 bytes-of (b ∷ l) h = byte (h 0 .fits) (bytes-of l (λ i. h (suc i)))
 
-pub charted-of : {ks gs ns fs us ts : List ℕ} {root : ℕ} {last : Set} → Tabled ks gs ns fs us ts root last → Charted ks gs ns fs us root
-charted-of T = record { scanned = T .scanned; upto = T .upto }
+pub charted-of : {ks gs ns fs us ts : List ℕ} {root : ℕ} {last : Set} → Tabled ks gs ns fs us ts root last → Charted ks gs ns fs us ts root
+charted-of T = record { scanned = T .scanned; upto = T .upto; long = T .long; follow = T .follow }
 
 -- what is left in the cells, cleared
 pub cleared-cells : {mask follow text l m m′ : List ℕ} {ends : Set} → Backed mask follow ends text l m → m′ ≡ replicate (length text + 1) 0 ++ drop (length text + 1) m → m′ ≡ cleared text l
@@ -56,6 +56,7 @@ module _ {e : Re} {ks gs cs : List ℕ} {root n k : ℕ} (G : Given e ks gs cs r
       fair = G .fair;
       can-read = G .can-read;
       few-marks = G .few-marks;
+      few-positions = G .few-positions;
       marks-are = G .marks-are;
       bytes = bytes-of text b;
       short = s;

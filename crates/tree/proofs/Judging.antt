@@ -49,14 +49,14 @@ module _ {e : Re} {ks gs fs mask follow text cells : List ℕ} {root k : ℕ} (J
   few = omega (arith, J .few-marks)
 
   -- whether the root is open to the first cell says whether there is a tree
-  pub found-is : {ns us : List ℕ} {goal : Set} {r : Bool} → Charted ks gs ns fs us root → goal ≡ row cells 0
+  pub found-is : {ns us ts : List ℕ} {goal : Set} {r : Bool} → Charted ks gs ns fs us ts root → goal ≡ row cells 0
       → r ≡ openTo (meets (row fs root) goal) (getD ns root 0) (eqb (length text) 0) → r ≡ found e text
-  found-is {ns} {us} {goal} {r} C g i =
+  found-is {ns} {us} {ts} {goal} {r} C g i =
       open-is (C .scanned) (omega arith) goal (eqb (length text) 0) i (J .holds)
       ∙ ap₂ (λ (l b : Bool). l || (nullable e && b)) (leads-same 0 e (has goal) (alive e text) (λ q. ap (λ (u : Set). has u q) g ∙ J .living 0 q (omega arith))) (ended-zero text)
 
   pub judge-walkable : found e text ≡ true → Walkable e ks gs root text cells
-  judge-walkable y = record { holds = J .holds; within = J .within; fair = J .fair; few = J .few-marks; short = J .short; enough = J .enough; living = J .living; a-tree = y }
+  judge-walkable y = record { holds = J .holds; within = J .within; fair = J .fair; few = J .few-marks; few-positions = J .few-positions; short = J .short; enough = J .enough; living = J .living; a-tree = y }
 
   pub judge-tree : {t t′ : List ℕ} {w : Walked} → found e text ≡ true → Measures e text w → t′ ≡ kept (firstRow e text) t → SoughtAs e text t t′ (found-as.Tree (w .length) (w .other))
   judge-tree y M z = sought-tree (first-tree e (J .fair) few text y) (first-flag e (J .fair) few text y) (M .long) (ap (λ (b : Bool). cond b 1 0) (M .other)) z

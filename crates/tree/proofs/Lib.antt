@@ -4,6 +4,7 @@ pub mod Answers
 pub mod Settled
 pub mod Meaning
 pub mod Along
+pub mod Linking
 pub mod Advance
 pub mod Judging
 pub mod Finding

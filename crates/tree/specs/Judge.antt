@@ -47,6 +47,7 @@ pub record Judgeable (e : Re) (ks gs fs mask follow : List ℕ) (root k : ℕ) (
   pub fair : Fair e
   pub can-read : Open e
   pub few-marks : marks e ≤ mark-limit
+  pub few-positions : size e ≤ position-limit
   pub marks-are : k ≡ marks e
   pub bytes : Bytes text
   pub short : length text ≤ text-limit

@@ -2,6 +2,7 @@
 pub mod Turns
 pub mod Outcome
 pub mod Search
+pub mod Links
 pub mod Walk
 pub mod Judge
 pub mod Lending

@@ -5,41 +5,45 @@ use mathlib.Core.List.{List}
 use Prim.Native.Nat.{ℕ, _+_, _≤_, _<_}
 use lib.ListN.{length, drop}
 use lib.Seq.{sets}
-use Rattle.meaning.specs.Expression.{Re, marks}
+use Rattle.meaning.specs.Expression.{Re, marks, size}
 use Rattle.meaning.specs.Limits.{text-limit, mark-limit}
 use Rattle.meaning.specs.Tree.{letter}
 use Rattle.grammar.specs.Fair.{Fair}
 use Rattle.laws.specs.Holds.{Holds}
 use Rattle.positions.specs.Alive.{alive}
-use Rattle.positions.specs.Places.{In}
 use Rattle.positions.specs.Runs.{put, resumeRun}
+use Rattle.positions.specs.Sets.{follows}
 use Rattle.positions.specs.Theorem.{found, firstRow, otherTree}
 use Rattle.sets.specs.declared.set.Set.{Set}
-use Rattle.sets.specs.Members.{has, row, rows}
+use Rattle.sets.specs.Members.{has, limit, row, rows}
 use Rattle.walks.specs.declared.step.Step.{Step}
 use Rattle.walks.specs.declared.step.Step.the-variants.{Passed, Stopped}
 use Rattle.walks.specs.Enter.{Scanned}
-use Rattle.walks.specs.Resume.{Placed}
-use Rattle.walks.specs.Steps.{noted, Wrote}
+use Rattle.walks.specs.Steps.{noted}
 use Rattle.walks.specs.Tables.{Known, number, EndAt}
 use Rattle.tree.specs.declared.walk.Walked.{Walked}
+use Rattle.tree.specs.Links.{Linked, Went}
 
--- the tables of the nodes are right up to the root
-pub record Charted (ks gs ns fs us : List ℕ) (root : ℕ) : Type 0 where
+-- the tables of the nodes are right up to the root, and that of the positions says which may follow each
+pub record Charted (ks gs ns fs us ts : List ℕ) (root : ℕ) : Type 0 where
   pub scanned : Scanned ks gs ns fs root
   pub upto : Known number (EndAt ks gs) us root
+  pub long : rows ts ≡ limit
+  pub follow : (e : Re) → Holds ks gs 0 0 root e → (j : ℕ) → j < size e → (q : ℕ) → has (row ts j) q ≡ follows 0 e j q
 
 -- from position j, which has read the byte b: the letter, and the marks up to the next position of the goal or, if `last`, to the end
-pub record StepsAt (ks gs : List ℕ) (root j b : ℕ) (goal : Set) (last : Bool) (t t′ : List ℕ) (from : ℕ) (r : Step) : Type 0 where
-  pub wrote : (e : Re) (m p : ℕ) → Holds ks gs m p root e → In p e j → Wrote t t′ from r (put (letter b) (resumeRun m p e j (has goal) last))
+abbrev pub StepsAt : List ℕ → List ℕ → ℕ → ℕ → ℕ → Set → Bool → List ℕ → List ℕ → List ℕ → List ℕ → List ℕ → List ℕ → ℕ → Step → Type 0
+StepsAt ks gs root j b goal last keys keys′ links links′ t t′ from r = Went ks gs root j (λ e. put (letter b) (resumeRun 0 0 e j (has goal) last)) keys keys′ links links′ t t′ from r
 
 -- a walk that stands before a position has room to go on
-abbrev pub Stands : List ℕ → List ℕ → ℕ → Step → Type 0
-Stands ks gs root s = (q c : ℕ) (w : Bool) → s ≡ Stopped q c w → Placed ks gs root q (c + 1)
+abbrev pub Stands : List ℕ → List ℕ → ℕ → List ℕ → List ℕ → List ℕ → Step → Type 0
+Stands ks gs root keys links t s = (q c : ℕ) (w : Bool) → s ≡ Stopped q c w → Linked ks gs root q keys links t c (c + 1)
 
 -- the same from where the step s stands
-pub record Advances (ks gs : List ℕ) (root b : ℕ) (goal : Set) (last : Bool) (t t′ : List ℕ) (s r : Step) : Type 0 where
-  pub on : (q c : ℕ) (w : Bool) → s ≡ Stopped q c w → (u : Step) × StepsAt ks gs root q b goal last t t′ c u × (r ≡ noted w u)
+pub record Advances (ks gs : List ℕ) (root b : ℕ) (goal : Set) (last : Bool) (keys keys′ links links′ t t′ : List ℕ) (s r : Step) : Type 0 where
+  pub same-keys : rows keys′ ≡ rows keys
+  pub same-links : length links′ ≡ length links
+  pub on : (q c : ℕ) (w : Bool) → s ≡ Stopped q c w → (u : Step) × StepsAt ks gs root q b goal last keys keys′ links links′ t t′ c u × (r ≡ noted w u)
 
 -- the root holds e, and the cells hold the positions that are alive at each place of the text, which has a tree
 pub record Walkable (e : Re) (ks gs : List ℕ) (root : ℕ) (text cells : List ℕ) : Type 0 where
@@ -47,6 +51,7 @@ pub record Walkable (e : Re) (ks gs : List ℕ) (root : ℕ) (text cells : List 
   pub within : root < 1024
   pub fair : Fair e
   pub few : marks e ≤ mark-limit
+  pub few-positions : size e ≤ limit
   pub short : length text ≤ text-limit
   pub enough : length text < rows cells
   pub living : (i q : ℕ) → i ≤ length text → has (row cells i) q ≡ alive e (drop i text) q

@@ -43,16 +43,28 @@ fn measure<'a>(
     null: &'a [u8; 1024],
     first: &'a [u64; 1024],
     upto: &'a [u16; 1024],
+    follow: &[u64; 64],
     root: usize,
     text: &[u8],
     cells: &[u64],
 ) -> Walked
     requires { ⌜ Walks (now kind) (now arg) root (now text) (now cells) ⌝ }
-    requires { ⌜ Charted (now kind) (now arg) (now null) (now first) (now upto) root ⌝ }
+    requires { ⌜ Charted (now kind) (now arg) (now null) (now first) (now upto) (now follow) root ⌝ }
     ensures { λ r. ⌜ ((e : Re) → Walkable e (now (kind .entry)) (now (arg .entry)) root (now (text .entry)) (now (cells .entry)) → Measures e (now (text .entry)) r) ⌝ }
 {
     let mut none = [0u16; 1];
-    walk(kind, arg, null, first, upto, root, text, cells, &mut none)
+    walk(
+        kind,
+        arg,
+        null,
+        first,
+        upto,
+        follow,
+        root,
+        text,
+        cells,
+        &mut none,
+    )
 }
 
 // With the cells filled: is there a tree? Its row goes into the room if that holds it. A room that holds every tree is written at once;
@@ -72,20 +84,42 @@ fn judge<'a>(
     tree: &mut [u16],
 ) -> Found
     requires { ⌜ Judges (now kind) (now arg) (now first) (now mask) (now follow) root marks (now text) (now cells) ⌝ }
-    requires { ⌜ Charted (now kind) (now arg) (now null) (now first) (now upto) root ⌝ }
+    requires { ⌜ Charted (now kind) (now arg) (now null) (now first) (now upto) (now follow) root ⌝ }
     requires { ⌜ (256 ≤ rows (now mask)) × (limit ≤ rows (now follow)) ⌝ }
     ensures { λ r. ⌜ ((e : Re) → Judgeable e (now (kind .entry)) (now (arg .entry)) (now (first .entry)) (now (mask .entry)) (now (follow .entry)) root marks (now (text .entry)) (now (cells .entry)) → SoughtAs e (now (text .entry)) (now (tree .entry)) (now (tree .exit)) r) ⌝ }
 {
     let n = text.len();
     if open_to(null, first, root, Set::load(cells, 0), n == 0) {
         if room_for(marks, n) <= tree.len() {
-            let w = walk(kind, arg, null, first, upto, root, text, cells, tree);
+            let w = walk(
+                kind,
+                arg,
+                null,
+                first,
+                upto,
+                follow,
+                root,
+                text,
+                cells,
+                tree,
+            );
             return Found::Tree(w.length, w.other);
         }
-        let w = measure(kind, arg, null, first, upto, root, text, cells);
+        let w = measure(kind, arg, null, first, upto, follow, root, text, cells);
         let length = w.length;
         if length <= tree.len() {
-            walk(kind, arg, null, first, upto, root, text, cells, tree);
+            walk(
+                kind,
+                arg,
+                null,
+                first,
+                upto,
+                follow,
+                root,
+                text,
+                cells,
+                tree,
+            );
         }
         return Found::Tree(length, w.other);
     }

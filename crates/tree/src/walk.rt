@@ -2,12 +2,12 @@
 ghost use mathlib.Core.Path.{_≡_};
 ghost use Prim.Native.Nat.{_+_};
 ghost use Rattle.meaning.specs.Expression.{Re};
-ghost use Rattle.walks.specs.Resume.{Placed};
 ghost use Rattle.walks.specs.Steps.{cursor};
+ghost use Rattle.tree.specs.Links.{Linked};
 ghost use Rattle.tree.specs.Walk.{Charted, StepsAt, Stands, Advances, Walkable, Walks, Writes, other-of};
+use crate::links::onward;
 use sets::set::Set;
 use walks::enter::enter;
-use walks::resume::resume;
 use walks::step::Step;
 use walks::step::also;
 use walks::step::put;
@@ -33,29 +33,35 @@ fn step<'a>(
     null: &'a [u8; 1024],
     first: &'a [u64; 1024],
     upto: &'a [u16; 1024],
+    follow: &[u64; 64],
     root: usize,
     q: usize,
     b: u8,
     goal: Set,
     last: bool,
+    keys: &mut [u64; 128],
+    links: &mut [usize; 512],
     tree: &mut [u16],
     at: usize,
 ) -> Step
-    requires { ⌜ Placed (now kind) (now arg) root q (at + 1) ⌝ }
-    requires { ⌜ Charted (now kind) (now arg) (now null) (now first) (now upto) root ⌝ }
-    ensures { λ r. ⌜ StepsAt (now (kind .entry)) (now (arg .entry)) root q b goal last (now (tree .entry)) (now (tree .exit)) at r ⌝ }
+    requires { ⌜ Linked (now kind) (now arg) root q (now keys) (now links) (now tree) at (at + 1) ⌝ }
+    requires { ⌜ Charted (now kind) (now arg) (now null) (now first) (now upto) (now follow) root ⌝ }
+    ensures { λ r. ⌜ StepsAt (now (kind .entry)) (now (arg .entry)) root q b goal last (now (keys .entry)) (now (keys .exit)) (now (links .entry)) (now (links .exit)) (now (tree .entry)) (now (tree .exit)) at r ⌝ }
 {
     let next = put(tree, at, letter(b));
-    resume(
+    onward(
         kind,
         arg,
         null,
         first,
         upto,
+        follow,
         root,
         q,
         goal,
         last,
+        keys,
+        links,
         tree,
         next,
     )
@@ -68,16 +74,19 @@ fn advance<'a>(
     null: &'a [u8; 1024],
     first: &'a [u64; 1024],
     upto: &'a [u16; 1024],
+    follow: &[u64; 64],
     root: usize,
     b: u8,
     goal: Set,
     last: bool,
+    keys: &mut [u64; 128],
+    links: &mut [usize; 512],
     tree: &mut [u16],
     s: Step,
 ) -> Step
-    requires { ⌜ Stands (now kind) (now arg) root s ⌝ }
-    requires { ⌜ Charted (now kind) (now arg) (now null) (now first) (now upto) root ⌝ }
-    ensures { λ r. ⌜ Advances (now (kind .entry)) (now (arg .entry)) root b goal last (now (tree .entry)) (now (tree .exit)) s r ⌝ }
+    requires { ⌜ Stands (now kind) (now arg) root (now keys) (now links) (now tree) s ⌝ }
+    requires { ⌜ Charted (now kind) (now arg) (now null) (now first) (now upto) (now follow) root ⌝ }
+    ensures { λ r. ⌜ Advances (now (kind .entry)) (now (arg .entry)) root b goal last (now (keys .entry)) (now (keys .exit)) (now (links .entry)) (now (links .exit)) (now (tree .entry)) (now (tree .exit)) s r ⌝ }
 {
     match s {
         Step::Passed(at, other) => Step::Passed(at, other),
@@ -88,11 +97,14 @@ fn advance<'a>(
                 null,
                 first,
                 upto,
+                follow,
                 root,
                 q,
                 b,
                 goal,
                 last,
+                keys,
+                links,
                 tree,
                 at,
             ),
@@ -118,13 +130,14 @@ pub fn walk<'a>(
     null: &'a [u8; 1024],
     first: &'a [u64; 1024],
     upto: &'a [u16; 1024],
+    follow: &[u64; 64],
     root: usize,
     text: &[u8],
     cells: &[u64],
     tree: &mut [u16],
 ) -> Walked
     requires { ⌜ Walks (now kind) (now arg) root (now text) (now cells) ⌝ }
-    requires { ⌜ Charted (now kind) (now arg) (now null) (now first) (now upto) root ⌝ }
+    requires { ⌜ Charted (now kind) (now arg) (now null) (now first) (now upto) (now follow) root ⌝ }
     ensures { λ r. ⌜ ((e : Re) → Walkable e (now (kind .entry)) (now (arg .entry)) root (now (text .entry)) (now (cells .entry)) → Writes e (now (text .entry)) (now (tree .entry)) (now (tree .exit)) r) ⌝ }
 {
     let n = text.len();
@@ -139,6 +152,8 @@ pub fn walk<'a>(
         tree,
         0,
     );
+    let mut keys = [0u64; 128];
+    let mut links = [0usize; 512];
     let mut i = 0;
     while i < n {
         let next = i + 1;
@@ -148,10 +163,13 @@ pub fn walk<'a>(
             null,
             first,
             upto,
+            follow,
             root,
             text[i],
             Set::load(cells, next),
             next == n,
+            &mut keys,
+            &mut links,
             tree,
             s,
         );

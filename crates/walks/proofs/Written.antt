@@ -13,7 +13,7 @@ use Rattle.walks.specs.declared.step.Step.{Step}
 use Rattle.walks.specs.declared.step.Step.the-variants.{Passed, Stopped}
 use Rattle.walks.specs.Steps.{cursor, noted, stepOf, Wrote, After}
 
-sets-append : (r s t : List ℕ) (a : ℕ) → sets (sets t a r) (a + length r) s ≡ sets t a (r ++ s)
+pub sets-append : (r s t : List ℕ) (a : ℕ) → sets (sets t a r) (a + length r) s ≡ sets t a (r ++ s)
 sets-append [] s t a = rw (add-zero a)
 sets-append (v ∷ r) s t a = rw (add-suc a (length r), ← suc-add a (length r)) (sets-append r s (set t a v) (suc a))
 
