@@ -85,7 +85,7 @@ module _ {e : Re} {ks gs txt cells : List ℕ} {root : ℕ} (W : Walkable e ks g
             rw y (x .1 .wrote e (W .fair) few (W .holds) (along-few e (W .fair) few txt A z .0) k .1)
 
   -- there is room to count
-  pub walk-linked : {keys links t₀ t : List ℕ} {s : Step} {i : ℕ} → i ≤ length txt → Along e txt t₀ t s i → Kept e keys links t (cursor s) → rows keys ≡ 128 → length links ≡ 512
+  pub walk-linked : {keys links t₀ t : List ℕ} {s : Step} {i : ℕ} → i ≤ length txt → Along e txt t₀ t s i → Kept e keys links t (cursor s) → rows keys ≡ 256 → length links ≡ 1024
       → (q c : ℕ) (w : Bool) → s ≡ Stopped q c w → Linked ks gs root q keys links t c (c + 1)
   walk-linked {i = i} h A K a b q c w z =
       let f = along-few e (W .fair) few txt A z in

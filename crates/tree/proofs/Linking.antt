@@ -195,39 +195,39 @@ link-off l s s′ a b c d n L =
     L
 
 -- one more link
-kept-new : {e : Re} {keys keys′ links t : List ℕ} {m : ℕ} {goal : Set} (j h a b c d : ℕ) → Kept e keys links t m → h < 2 → 4 * (2 * j + h) + 3 < length links → Stored goal (2 * j + h) keys keys′
-    → Link (resumeRun 0 0 e j (has goal) false) t m a b c d → Kept e keys′ (four links (2 * j + h) a b c d) t m
-kept-new {e} {keys} {keys′} {links} {t} {m} {goal} j h a b c d K i n S L = record { link = λ j′ h′ p i′ y. go j′ h′ p i′ y (eqb (2 * j′ + h′) (2 * j + h)) refl }
+kept-new : {e : Re} {keys keys′ links t : List ℕ} {m : ℕ} {goal : Set} (j h a b c d : ℕ) → Kept e keys links t m → h < 4 → 4 * (4 * j + h) + 3 < length links → Stored goal (4 * j + h) keys keys′
+    → Link (resumeRun 0 0 e j (has goal) false) t m a b c d → Kept e keys′ (four links (4 * j + h) a b c d) t m
+kept-new {e} {keys} {keys′} {links} {t} {m} {goal} j h a b c d K i n S L = record { link = λ j′ h′ p i′ y. go j′ h′ p i′ y (eqb (4 * j′ + h′) (4 * j + h)) refl }
   where
-    go : (j′ h′ p : ℕ) → h′ < 2 → has (row keys′ (2 * j′ + h′)) p ≡ true → (v : Bool) → eqb (2 * j′ + h′) (2 * j + h) ≡ v
-        → LinkAt (resumeRun 0 0 e j′ (has (row keys′ (2 * j′ + h′))) false) (four links (2 * j + h) a b c d) t m (2 * j′ + h′)
+    go : (j′ h′ p : ℕ) → h′ < 4 → has (row keys′ (4 * j′ + h′)) p ≡ true → (v : Bool) → eqb (4 * j′ + h′) (4 * j + h) ≡ v
+        → LinkAt (resumeRun 0 0 e j′ (has (row keys′ (4 * j′ + h′))) false) (four links (4 * j + h) a b c d) t m (4 * j′ + h′)
     go j′ h′ p i′ y true z =
-        let x = eqb-true (2 * j′ + h′) (2 * j + h) z in
+        let x = eqb-true (4 * j′ + h′) (4 * j + h) z in
         let u : j′ ≡ j = omega arith in
         let v : h′ ≡ h = omega arith in
-        rw (u, v, S .here) (link-at links (2 * j + h) a b c d n L)
+        rw (u, v, S .here) (link-at links (4 * j + h) a b c d n L)
     go j′ h′ p i′ y false z =
-        let x = eqb-false (2 * j′ + h′) (2 * j + h) z in
-        let o = S .other (2 * j′ + h′) x in
-        rw o (link-off links (2 * j + h) (2 * j′ + h′) a b c d x (K .link j′ h′ p i′ (rw o at y)))
+        let x = eqb-false (4 * j′ + h′) (4 * j + h) z in
+        let o = S .other (4 * j′ + h′) x in
+        rw o (link-off links (4 * j + h) (4 * j′ + h′) a b c d x (K .link j′ h′ p i′ (rw o at y)))
 
 -- ---- the way on from position q, to the positions `near` of the goal
 
-module _ {e : Re} {keys links t : List ℕ} {c : ℕ} (q h : ℕ) (near : Set) (least : ℕ) (K : Kept e keys links t c) (i : h < 2) (y : has near least ≡ true)
-    (same : (p : ℕ) → has (row keys (2 * q + h)) p ≡ has near p) where
-  hit-link : LinkAt (resumeRun 0 0 e q (has near) false) links t c (2 * q + h)
-  hit-link = rw (← resume-run-same 0 0 e q (has (row keys (2 * q + h))) (has near) false same) (K .link q h least i (same least ∙ y))
+module _ {e : Re} {keys links t : List ℕ} {c : ℕ} (q h : ℕ) (near : Set) (least : ℕ) (K : Kept e keys links t c) (i : h < 4) (y : has near least ≡ true)
+    (same : (p : ℕ) → has (row keys (4 * q + h)) p ≡ has near p) where
+  hit-link : LinkAt (resumeRun 0 0 e q (has near) false) links t c (4 * q + h)
+  hit-link = rw (← resume-run-same 0 0 e q (has (row keys (4 * q + h))) (has near) false same) (K .link q h least i (same least ∙ y))
 
   -- its row stands before c and is short
-  pub hit-past : getD links (4 * (2 * q + h) + 1) 0 + getD links (4 * (2 * q + h) + 2) 0 ≤ c
+  pub hit-past : getD links (4 * (4 * q + h) + 1) 0 + getD links (4 * (4 * q + h) + 2) 0 ≤ c
   hit-past = hit-link .past
 
-  pub hit-short : q < size e → getD links (4 * (2 * q + h) + 2) 0 ≤ 4 * marks e
+  pub hit-short : q < size e → getD links (4 * (4 * q + h) + 2) 0 ≤ 4 * marks e
   hit-short k =
       let l = resume-run-room 0 0 e q (has near) false (omega arith, omega arith) in
       omega (arith, l, spare-most (outOf (resumeRun 0 0 e q (has near) false)) (marks e), hit-link .long-is)
 
-  pub hit-wrote : {t′ : List ℕ} {r : Step} → Recalled links (2 * q + h) t t′ c r → Wrote t t′ c r (resumeRun 0 0 e q (has near) false)
+  pub hit-wrote : {t′ : List ℕ} {r : Step} → Recalled links (4 * q + h) t t′ c r → Wrote t t′ c r (resumeRun 0 0 e q (has near) false)
   hit-wrote C = recalled hit-link C
 
 -- the same run to the whole goal
@@ -236,8 +236,8 @@ pub near-went : {e : Re} {keys links t t′ : List ℕ} {c : ℕ} {last : Bool} 
 near-went {e} q near goal least f m l n y W K = (rw (l, resume-near f m q least (has goal) (has near) n y) W, K)
 
 -- after a walk, which is kept
-pub miss-kept : {e : Re} {keys keys′ links links′ t t′ : List ℕ} {c : ℕ} {near : Set} {u r : Step} (q h : ℕ) → Kept e keys links t c → h < 2 → 4 * (2 * q + h) + 3 < length links
-    → Wrote t t′ c u (resumeRun 0 0 e q (has near) false) → Keeps (2 * q + h) near c u r keys keys′ links links′ → Kept e keys′ links′ t′ (cursor r)
+pub miss-kept : {e : Re} {keys keys′ links links′ t t′ : List ℕ} {c : ℕ} {near : Set} {u r : Step} (q h : ℕ) → Kept e keys links t c → h < 4 → 4 * (4 * q + h) + 3 < length links
+    → Wrote t t′ c u (resumeRun 0 0 e q (has near) false) → Keeps (4 * q + h) near c u r keys keys′ links links′ → Kept e keys′ links′ t′ (cursor r)
 miss-kept {e} {keys} {keys′} {links} {links′} {t} {t′} {c} {near} {u} {r} q h K i n W S = rw (S .same-step) (go u refl)
   where
     old : Kept e keys links t′ (cursor u)
@@ -256,7 +256,7 @@ pub near-is : (e : Re) (ts : List ℕ) (q : ℕ) (at-q near goal : Set) → ((p 
 near-is e ts q at-q near goal f z n p = n p ∙ ap (λ (b : Bool). b && has goal p) (ap (λ (s : Set). has s p) z ∙ f p)
 
 pub kept-none : (e : Re) (n : ℕ) (links t : List ℕ) (c : ℕ) → Kept e (replicate n 0) links t c
-kept-none e n links t c = record { link = λ j h p i y. absurd (false≢true (sym (zeros-empty n (2 * j + h) p) ∙ y)) }
+kept-none e n links t c = record { link = λ j h p i y. absurd (false≢true (sym (zeros-empty n (4 * j + h) p) ∙ y)) }
 
 pub linked-placed : {ks gs keys links t : List ℕ} {root j c from : ℕ} → Linked ks gs root j keys links t c from → Placed ks gs root j from
 linked-placed L = record { e = L .e; m = 0; p = 0; holds = L .holds; within = L .within; inside = (omega arith, omega (arith, L .inside)); few = omega (arith, L .few-marks); room = L .room }
@@ -285,7 +285,7 @@ linked-put v L z y = record {
 pub keeps-passed : {s at′ c : ℕ} {w : Bool} {goal : Set} {u : Step} {keys links : List ℕ} → u ≡ Passed c w → Keeps s goal at′ u (Passed c w) keys keys links links
 keeps-passed z = record { same-step = sym z; same-keys = refl; same-links = refl; passed = λ c w y. (refl, refl); stopped = λ q c w y. absurd (apart (sym z ∙ y)) }
 
-pub keeps-stopped : {s from q c bit : ℕ} {w : Bool} {goal : Set} {u : Step} {keys keys′ links : List ℕ} → u ≡ Stopped q c w → s < 128 → length links ≡ 512 → bit ≡ flag w → Stored goal s keys keys′
+pub keeps-stopped : {s from q c bit : ℕ} {w : Bool} {goal : Set} {u : Step} {keys keys′ links : List ℕ} → u ≡ Stopped q c w → s < 256 → length links ≡ 1024 → bit ≡ flag w → Stored goal s keys keys′
     → Keeps s goal from u (Stopped q c w) keys keys′ links (four links s q from (c - from) bit)
 keeps-stopped {s} {from} {q} {c} {bit} {w} {goal} {u} {keys} {keys′} {links} z h l b S = record {
   same-step = sym z;

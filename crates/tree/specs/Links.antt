@@ -1,5 +1,5 @@
 -- Links: of the rows of marks between two letters, those that a walk has written once are copied when it comes by again. For each position
--- there are two places to keep one, by the least member of the goal. Assumes nothing: these are definitions.
+-- there are four places to keep one, by the least member of the goal. Assumes nothing: these are definitions.
 use mathlib.Core.Path.{_≡_}
 use mathlib.Core.Bool.{Bool, true, false, cond}
 use mathlib.Core.List.{List}
@@ -38,7 +38,7 @@ four links s to from long other = set (set (set (set links (4 * s) to) (4 * s + 
 
 -- each place of position j whose goal has a member keeps the run from j to that goal
 pub record Kept (e : Re) (keys links t : List ℕ) (c : ℕ) : Type 0 where
-  pub link : (j h p : ℕ) → h < 2 → has (row keys (2 * j + h)) p ≡ true → LinkAt (resumeRun 0 0 e j (has (row keys (2 * j + h))) false) links t c (2 * j + h)
+  pub link : (j h p : ℕ) → h < 4 → has (row keys (4 * j + h)) p ≡ true → LinkAt (resumeRun 0 0 e j (has (row keys (4 * j + h))) false) links t c (4 * j + h)
 
 -- the root holds an expression with the position j, of which these are kept, and there is room to count what is written from `from` on
 pub record Linked (ks gs : List ℕ) (root j : ℕ) (keys links t : List ℕ) (c from : ℕ) : Type 0 where
@@ -49,8 +49,8 @@ pub record Linked (ks gs : List ℕ) (root j : ℕ) (keys links t : List ℕ) (c
   pub few : size e ≤ limit
   pub few-marks : marks e < 128
   pub room : from + 8 * marks e < 2 ^ 64
-  pub all-keys : rows keys ≡ 128
-  pub all-links : length links ≡ 512
+  pub all-keys : rows keys ≡ 256
+  pub all-links : length links ≡ 1024
   pub kept : Kept e keys links t c
 
 -- the run that R tells for what the root holds is written, and what is kept stays right

@@ -28,8 +28,8 @@ fn copy(tree: &mut [u16], from: usize, long: usize, at: usize)
 }
 
 // Goes the way that is kept at place s: where it leads, where its row begins, how long that is, and 1 where there was another way.
-fn recall(links: &[usize; 512], s: usize, tree: &mut [u16], at: usize) -> Step
-    requires { ⌜ (s < 128) × (getD (now links) (4 * s + 1) 0 + getD (now links) (4 * s + 2) 0 ≤ at) × (at + getD (now links) (4 * s + 2) 0 < 2 ^ 64) ⌝ }
+fn recall(links: &[usize; 1024], s: usize, tree: &mut [u16], at: usize) -> Step
+    requires { ⌜ (s < 256) × (getD (now links) (4 * s + 1) 0 + getD (now links) (4 * s + 2) 0 ≤ at) × (at + getD (now links) (4 * s + 2) 0 < 2 ^ 64) ⌝ }
     ensures { λ r. ⌜ Recalled (now (links .entry)) s (now (tree .entry)) (now (tree .exit)) at r ⌝ }
 {
     let k = 4 * s;
@@ -52,14 +52,14 @@ fn number(b: bool) -> usize
 
 // Keeps at place s where a step to the goal came to, whose row begins at `at`.
 fn keep(
-    keys: &mut [u64; 128],
-    links: &mut [usize; 512],
+    keys: &mut [u64; 256],
+    links: &mut [usize; 1024],
     s: usize,
     goal: Set,
     at: usize,
     u: Step,
 ) -> Step
-    requires { ⌜ (s < 128) × ((at ≤ cursor u) × ((rows (now keys) ≡ 128) × (length (now links) ≡ 512))) ⌝ }
+    requires { ⌜ (s < 256) × ((at ≤ cursor u) × ((rows (now keys) ≡ 256) × (length (now links) ≡ 1024))) ⌝ }
     ensures { λ r. ⌜ Keeps s goal at u r (now (keys .entry)) (now (keys .exit)) (now (links .entry)) (now (links .exit)) ⌝ }
 {
     match u {
@@ -90,8 +90,8 @@ pub fn onward<'a>(
     q: usize,
     goal: Set,
     last: bool,
-    keys: &mut [u64; 128],
-    links: &mut [usize; 512],
+    keys: &mut [u64; 256],
+    links: &mut [usize; 1024],
     tree: &mut [u16],
     at: usize,
 ) -> Step
@@ -107,7 +107,7 @@ pub fn onward<'a>(
     if LIMIT <= least {
         return resume(kind, arg, null, first, upto, root, q, goal, last, tree, at);
     }
-    let s = 2 * q + least % 2;
+    let s = 4 * q + least % 4;
     if Set::load(keys, s).same(near) {
         return recall(links, s, tree, at);
     }

@@ -39,8 +39,8 @@ fn step<'a>(
     b: u8,
     goal: Set,
     last: bool,
-    keys: &mut [u64; 128],
-    links: &mut [usize; 512],
+    keys: &mut [u64; 256],
+    links: &mut [usize; 1024],
     tree: &mut [u16],
     at: usize,
 ) -> Step
@@ -79,8 +79,8 @@ fn advance<'a>(
     b: u8,
     goal: Set,
     last: bool,
-    keys: &mut [u64; 128],
-    links: &mut [usize; 512],
+    keys: &mut [u64; 256],
+    links: &mut [usize; 1024],
     tree: &mut [u16],
     s: Step,
 ) -> Step
@@ -152,8 +152,8 @@ pub fn walk<'a>(
         tree,
         0,
     );
-    let mut keys = [0u64; 128];
-    let mut links = [0usize; 512];
+    let mut keys = [0u64; 256];
+    let mut links = [0usize; 1024];
     let mut i = 0;
     while i < n {
         let next = i + 1;

@@ -59,11 +59,11 @@ same-requires : tie.Need-same-requires
 same-requires c κs = tt
 
 -- the place has the same goal
-alike : (c : tie.Then3) (p : ℕ) → has (row (c .before .before .before .before .before .before .before .before .before .before .before .before .args .keys .now) (2 * c .before .before .before .before .before .before .before .before .before .before .before .before .args .q + c .before .before .before .before .before .before .first .result % 2)) p ≡ has (c .before .before .before .before .before .before .before .meet .result) p
+alike : (c : tie.Then3) (p : ℕ) → has (row (c .before .before .before .before .before .before .before .before .before .before .before .before .args .keys .now) (4 * c .before .before .before .before .before .before .before .before .before .before .before .before .args .q + c .before .before .before .before .before .before .first .result % 4)) p ≡ has (c .before .before .before .before .before .before .before .meet .result) p
 alike c p = ap (λ (s : Set). has s p) (sym (c .before .before .load2 .ensures)) ∙ c .before .same .ensures (c .if3 .taken) p
 
 recall-requires : tie.Need-recall-requires
-recall-requires c κs = (omega (arith, c .before .before .before .before .before .before .before .before .before .before .before .before .before .before .pre .0 .inside, c .before .before .before .before .before .before .before .before .before .before .before .before .before .before .pre .0 .few), hit-past (c .before .before .before .before .before .before .before .before .before .before .before .before .before .before .args .q) (c .before .before .before .before .before .before .before .before .first .result % 2) (c .before .before .before .before .before .before .before .before .before .meet .result) (c .before .before .before .before .before .before .before .before .first .result) (c .before .before .before .before .before .before .before .before .before .before .before .before .before .before .pre .0 .kept) (omega arith) (member ((c .before .before .before .before .before .before .before))) (alike ((c .before .before))), omega (arith, hit-short (c .before .before .before .before .before .before .before .before .before .before .before .before .before .before .args .q) (c .before .before .before .before .before .before .before .before .first .result % 2) (c .before .before .before .before .before .before .before .before .before .meet .result) (c .before .before .before .before .before .before .before .before .first .result) (c .before .before .before .before .before .before .before .before .before .before .before .before .before .before .pre .0 .kept) (omega arith) (member ((c .before .before .before .before .before .before .before))) (alike ((c .before .before))) (c .before .before .before .before .before .before .before .before .before .before .before .before .before .before .pre .0 .inside), c .before .before .before .before .before .before .before .before .before .before .before .before .before .before .pre .0 .room))
+recall-requires c κs = (omega (arith, c .before .before .before .before .before .before .before .before .before .before .before .before .before .before .pre .0 .inside, c .before .before .before .before .before .before .before .before .before .before .before .before .before .before .pre .0 .few), hit-past (c .before .before .before .before .before .before .before .before .before .before .before .before .before .before .args .q) (c .before .before .before .before .before .before .before .before .first .result % 4) (c .before .before .before .before .before .before .before .before .before .meet .result) (c .before .before .before .before .before .before .before .before .first .result) (c .before .before .before .before .before .before .before .before .before .before .before .before .before .before .pre .0 .kept) (omega arith) (member ((c .before .before .before .before .before .before .before))) (alike ((c .before .before))), omega (arith, hit-short (c .before .before .before .before .before .before .before .before .before .before .before .before .before .before .args .q) (c .before .before .before .before .before .before .before .before .first .result % 4) (c .before .before .before .before .before .before .before .before .before .meet .result) (c .before .before .before .before .before .before .before .before .first .result) (c .before .before .before .before .before .before .before .before .before .before .before .before .before .before .pre .0 .kept) (omega arith) (member ((c .before .before .before .before .before .before .before))) (alike ((c .before .before))) (c .before .before .before .before .before .before .before .before .before .before .before .before .before .before .pre .0 .inside), c .before .before .before .before .before .before .before .before .before .before .before .before .before .before .pre .0 .room))
 
 same-length-3 : tie.Need-same-length-3
 same-length-3 c = search needs
@@ -73,7 +73,7 @@ returns-3 c = record {
   same-keys = refl;
   same-links = refl;
   wrote = λ e f h held in′ k.
-      let w = hit-wrote (c .before .before .before .before .before .before .before .before .before .before .before .before .before .before .before .before .before .args .q) (c .before .before .before .before .before .before .before .before .before .before .before .first .result % 2) (c .before .before .before .before .before .before .before .before .before .before .before .before .meet .result) (c .before .before .before .before .before .before .before .before .before .before .before .first .result) k (omega arith) (member ((c .before .before .before .before .before .before .before .before .before .before))) (alike ((c .before .before .before .before .before))) (c .before .before .recall .ensures) in
+      let w = hit-wrote (c .before .before .before .before .before .before .before .before .before .before .before .before .before .before .before .before .before .args .q) (c .before .before .before .before .before .before .before .before .before .before .before .first .result % 4) (c .before .before .before .before .before .before .before .before .before .before .before .before .meet .result) (c .before .before .before .before .before .before .before .before .before .before .before .first .result) k (omega arith) (member ((c .before .before .before .before .before .before .before .before .before .before))) (alike ((c .before .before .before .before .before))) (c .before .before .recall .ensures) in
       near-went (c .before .before .before .before .before .before .before .before .before .before .before .before .before .before .before .before .before .args .q) (c .before .before .before .before .before .before .before .before .before .before .before .before .meet .result) (c .before .before .before .before .before .before .before .before .before .before .before .before .before .before .before .before .before .args .goal) (c .before .before .before .before .before .before .before .before .before .before .before .first .result) f h (c .before .before .before .before .before .before .before .before .before .before .before .before .before .before .before .if1 .left) (near-is e (c .before .before .before .before .before .before .before .before .before .before .before .before .before .before .before .before .before .args .follow .now) (c .before .before .before .before .before .before .before .before .before .before .before .before .before .before .before .before .before .args .q) (c .before .before .before .before .before .before .before .before .before .before .before .before .before .load .result) (c .before .before .before .before .before .before .before .before .before .before .before .before .meet .result) (c .before .before .before .before .before .before .before .before .before .before .before .before .before .before .before .before .before .args .goal) (c .before .before .before .before .before .before .before .before .before .before .before .before .before .before .before .before .before .pre .1 .follow e held (c .before .before .before .before .before .before .before .before .before .before .before .before .before .before .before .before .before .args .q) in′) (c .before .before .before .before .before .before .before .before .before .before .before .before .before .load .ensures) (c .before .before .before .before .before .before .before .before .before .before .before .before .meet .ensures)) (member ((c .before .before .before .before .before .before .before .before .before .before))) w (kept-wrote _ k w);
 }
 
@@ -94,7 +94,7 @@ returns-4 c = record {
       let v = c .before .before .before .before .before .resume3 .ensures .wrote e 0 0 held (omega arith, omega arith) in
       let u = rw (c .before .before .before .before .before .before .before .before .before .before .before .before .before .before .before .before .before .if1 .left) at v in
       let w = rw (sym (c .keep .ensures .same-step)) at u in
-      near-went (c .before .before .before .before .before .before .before .before .before .before .before .before .before .before .before .before .before .before .before .args .q) (c .before .before .before .before .before .before .before .before .before .before .before .before .before .before .meet .result) (c .before .before .before .before .before .before .before .before .before .before .before .before .before .before .before .before .before .before .before .args .goal) (c .before .before .before .before .before .before .before .before .before .before .before .before .before .first .result) f h (c .before .before .before .before .before .before .before .before .before .before .before .before .before .before .before .before .before .if1 .left) (near-is e (c .before .before .before .before .before .before .before .before .before .before .before .before .before .before .before .before .before .before .before .args .follow .now) (c .before .before .before .before .before .before .before .before .before .before .before .before .before .before .before .before .before .before .before .args .q) (c .before .before .before .before .before .before .before .before .before .before .before .before .before .before .before .load .result) (c .before .before .before .before .before .before .before .before .before .before .before .before .before .before .meet .result) (c .before .before .before .before .before .before .before .before .before .before .before .before .before .before .before .before .before .before .before .args .goal) (c .before .before .before .before .before .before .before .before .before .before .before .before .before .before .before .before .before .before .before .pre .1 .follow e held (c .before .before .before .before .before .before .before .before .before .before .before .before .before .before .before .before .before .before .before .args .q) in′) (c .before .before .before .before .before .before .before .before .before .before .before .before .before .before .before .load .ensures) (c .before .before .before .before .before .before .before .before .before .before .before .before .before .before .meet .ensures)) (member ((c .before .before .before .before .before .before .before .before .before .before .before .before))) w (miss-kept (c .before .before .before .before .before .before .before .before .before .before .before .before .before .before .before .before .before .before .before .args .q) (c .before .before .before .before .before .before .before .before .before .before .before .before .before .first .result % 2) k (omega arith) (omega (arith, c .before .before .before .before .before .before .before .before .before .before .before .before .before .before .before .before .before .before .before .pre .0 .all-links, c .before .before .before .before .before .before .before .before .before .before .before .before .before .before .before .before .before .before .before .pre .0 .inside, c .before .before .before .before .before .before .before .before .before .before .before .before .before .before .before .before .before .before .before .pre .0 .few)) u (c .keep .ensures));
+      near-went (c .before .before .before .before .before .before .before .before .before .before .before .before .before .before .before .before .before .before .before .args .q) (c .before .before .before .before .before .before .before .before .before .before .before .before .before .before .meet .result) (c .before .before .before .before .before .before .before .before .before .before .before .before .before .before .before .before .before .before .before .args .goal) (c .before .before .before .before .before .before .before .before .before .before .before .before .before .first .result) f h (c .before .before .before .before .before .before .before .before .before .before .before .before .before .before .before .before .before .if1 .left) (near-is e (c .before .before .before .before .before .before .before .before .before .before .before .before .before .before .before .before .before .before .before .args .follow .now) (c .before .before .before .before .before .before .before .before .before .before .before .before .before .before .before .before .before .before .before .args .q) (c .before .before .before .before .before .before .before .before .before .before .before .before .before .before .before .load .result) (c .before .before .before .before .before .before .before .before .before .before .before .before .before .before .meet .result) (c .before .before .before .before .before .before .before .before .before .before .before .before .before .before .before .before .before .before .before .args .goal) (c .before .before .before .before .before .before .before .before .before .before .before .before .before .before .before .before .before .before .before .pre .1 .follow e held (c .before .before .before .before .before .before .before .before .before .before .before .before .before .before .before .before .before .before .before .args .q) in′) (c .before .before .before .before .before .before .before .before .before .before .before .before .before .before .before .load .ensures) (c .before .before .before .before .before .before .before .before .before .before .before .before .before .before .meet .ensures)) (member ((c .before .before .before .before .before .before .before .before .before .before .before .before))) w (miss-kept (c .before .before .before .before .before .before .before .before .before .before .before .before .before .before .before .before .before .before .before .args .q) (c .before .before .before .before .before .before .before .before .before .before .before .before .before .first .result % 4) k (omega arith) (omega (arith, c .before .before .before .before .before .before .before .before .before .before .before .before .before .before .before .before .before .before .before .pre .0 .all-links, c .before .before .before .before .before .before .before .before .before .before .before .before .before .before .before .before .before .before .before .pre .0 .inside, c .before .before .before .before .before .before .before .before .before .before .before .before .before .before .before .before .before .before .before .pre .0 .few)) u (c .keep .ensures));
 }
 
 pub onward-spec : {M : Type 1} → statement M

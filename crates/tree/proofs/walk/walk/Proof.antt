@@ -18,7 +18,7 @@ use Rattle.tree.proofs.walk.walk.Tie as tie
 abbrev Inv-loop : tie.InvT-loop
 Inv-loop kind arg null first upto follow root text cells tree₀ n s₀ keys₀ links₀ i₀ tree s keys links i =
     (i ≤ lists.length text) × ((e : Re) → Walkable e kind arg root text cells → (t : List ℕ) → Along e text t tree₀ s₀ 0 → Along e text t tree s i)
-    × ((e : Re) → Walkable e kind arg root text cells → (t : List ℕ) → Along e text t tree₀ s₀ 0 → Kept e keys links tree (cursor s)) × (rows keys ≡ 128) × (lists.length links ≡ 512)
+    × ((e : Re) → Walkable e kind arg root text cells → (t : List ℕ) → Along e text t tree₀ s₀ 0 → Kept e keys links tree (cursor s)) × (rows keys ≡ 256) × (lists.length links ≡ 1024)
 
 abbrev μ-loop : tie.MeasureT-loop
 μ-loop kind arg null first upto follow root text cells tree₀ n s₀ keys₀ links₀ i₀ tree s keys links i = lists.length text - i
@@ -36,7 +36,7 @@ started c e w = walk-start w _ (c .before .before .before .before .load .ensures
 
 loop-holds : tie.Need-loop-holds Inv-loop μ-loop
 unfolding rows
-loop-holds c = (omega arith, (λ e w t a. a), (λ e w t a. kept-none e 128 _ _ _), refl, refl)
+loop-holds c = (omega arith, (λ e w t a. a), (λ e w t a. kept-none e 256 _ _ _), refl, refl)
 
 add-next : tie.Need-add-next Inv-loop μ-loop
 add-next c = omega arith
