@@ -1,13 +1,7 @@
 -- `tree::links::keep` meets its contract. Assumes nothing.
-use mathlib.Core.Path.{_≡_, refl, sym, ap, _∙_}
-use mathlib.Core.Bool.{Bool}
-use mathlib.Core.List.{List}
-use Prim.Native.Nat.{ℕ, _-_, _≤_}
+use mathlib.Core.Path.{ap}
 use native.Mathlib.Omega.{arith}
 use borrow.Author.Needs.{needs}
-use lib.ListN.{length, length-set}
-use Rattle.sets.specs.declared.set.Set.{Set}
-use Rattle.walks.specs.declared.step.Step.{Step}
 use Rattle.walks.specs.Steps.{cursor}
 use Rattle.tree.proofs.Linking.{keeps-passed, keeps-stopped}
 use Rattle.tree.proofs.links.keep.Statement.{statement}

@@ -1,13 +1,9 @@
 -- `tree::links::onward` meets its contract. Assumes nothing.
 use mathlib.Core.Path.{_≡_, refl, sym, ap, _∙_}
-use mathlib.Core.Bool.{Bool, true, false, _&&_}
-use Prim.Native.Nat.{ℕ, _+_, _*_, _%_, _≤_, _<_}
+use mathlib.Core.Bool.{true}
+use Prim.Native.Nat.{ℕ, _+_, _*_, _%_}
 use native.Mathlib.Omega.{arith}
 use borrow.Author.Needs.{needs}
-use Rattle.meaning.specs.Expression.{Re, size}
-use Rattle.laws.specs.Holds.{Holds}
-use Rattle.positions.specs.Runs.{resumeRun}
-use Rattle.positions.specs.Sets.{follows}
 use Rattle.sets.specs.declared.set.Set.{Set}
 use Rattle.sets.specs.Members.{has, row}
 use Rattle.walks.proofs.Written.{wrote-cursor}
