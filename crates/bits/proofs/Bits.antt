@@ -12,7 +12,7 @@ use borrow.Author.Tests.{eqb-true, eq-eqb, ne-eqb, ltb-true, lt-ltb}
 use Rattle.bits.specs.Bit.{digit, bit}
 use Rattle.meaning.specs.ReadPattern.{binary}
 use Rattle.bits.specs.Tally.{tally, any}
-use Rattle.bits.proofs.Bools.{and-split}
+use Rattle.bits.specs.Truth.{both}
 use Rattle.bits.proofs.Tallies.{Agree, tally-ext, any-none, any-some}
 use Rattle.bits.proofs.Digit.{digit-or, digit-and, digit-none, digit-one, digit-not, trailing-below, trailing-at, digit-drop}
 use Rattle.bits.proofs.Numbers.{number, digit-binary, ones-tally}
@@ -25,7 +25,7 @@ bit-within w x p l = ap (λ (t : Bool). t && digit x p) (lt-ltb p w l)
 
 pub bit-lt : (w x p : ℕ) → bit w x p ≡ true → p < w
 unfolding bit
-bit-lt w x p e = ltb-true p w (and-split (ltb p w) (digit x p) e .0)
+bit-lt w x p e = ltb-true p w (both (ltb p w) (digit x p) e .0)
 
 -- ---- a word is settled by its binary
 

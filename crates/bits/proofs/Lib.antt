@@ -1,5 +1,4 @@
--- Laws of truth values, of tests below a bound, of a number's digits, of a word's, of words in a row and of ranges.
-pub mod Bools
+-- Laws of tests below a bound, of a number's digits, of a word's, of words in a row and of ranges.
 pub mod Tallies
 pub mod Digit
 pub mod Numbers

@@ -11,7 +11,7 @@ use lib.Seq.{getD-set-same, getD-set-other}
 use borrow.Author.Tests.{eqb-true, eqb-false, eq-eqb}
 use Rattle.bits.specs.Bit.{bit}
 use Rattle.bits.specs.Words.{inWords}
-use Rattle.bits.proofs.Bools.{same, and-split, and-join}
+use Rattle.bits.specs.Truth.{alike, both, and-both}
 use Rattle.bits.proofs.Bits.{bit-or, bit-shl}
 
 -- the digits of m join word i
@@ -33,12 +33,12 @@ words-or w l i m q h = here (eqb (q / w) i) refl
 -- a number is its word and its digit
 parts : (w q b : ℕ) → (eqb (q / w) (b / w) && eqb (q % w) (b % w)) ≡ eqb q b
 parts w q b =
-    same _ _
-    (λ e. let s = and-split (eqb (q / w) (b / w)) (eqb (q % w) (b % w)) e in
+    alike _ _
+    (λ e. let s = both (eqb (q / w) (b / w)) (eqb (q % w) (b % w)) e in
     eq-eqb q b
     (sym (div-add-mod' q w) ∙ ap₂ (λ (m n : ℕ). m * w + n) (eqb-true (q / w) (b / w) (s .0)) (eqb-true (q % w) (b % w) (s .1)) ∙ div-add-mod' b w))
     (λ e. let h : q ≡ b = eqb-true q b e in
-    and-join (eq-eqb (q / w) (b / w) (ap (λ (n : ℕ). n / w) h)) (eq-eqb (q % w) (b % w) (ap (λ (n : ℕ). n % w) h)))
+    and-both (eq-eqb (q / w) (b / w) (ap (λ (n : ℕ). n / w) h)) (eq-eqb (q % w) (b % w) (ap (λ (n : ℕ). n % w) h)))
 
 -- the number b joins
 pub words-with : (w : ℕ) (l : List ℕ) (b q : ℕ) → 0 < w → b / w < length l

@@ -3,7 +3,7 @@ use mathlib.Core.Path.{_≡_, refl}
 use mathlib.Core.List.{List, [], _∷_}
 use Prim.Native.Nat.{ℕ}
 use Rattle.meaning.specs.Expression.{Re, pos, cat, alt, branch, opt, marks, size}
-use Rattle.meaning.specs.Grammar.{any, only, range, either}
+use Rattle.meaning.specs.Grammar.{any, only}
 use Rattle.meaning.specs.Tree.{erase}
 use Rattle.meaning.specs.Limits.{room-for}
 use Rattle.meaning.specs.ReadPattern.{nodes, kinds, args, binary, word}

@@ -1,13 +1,13 @@
 -- Each promise leaves one outcome: two that it allows for one input are the same, the lent rows included.
-use mathlib.Core.Path.{_≡_, refl, sym, _∙_, ap}
+use mathlib.Core.Path.{_≡_, refl, ap}
 use mathlib.Core.List.{List}
-use mathlib.Core.Logic.{_⊎_, inl, inr}
-use Prim.Native.Nat.{ℕ, _≤_, _<_}
+use mathlib.Core.Logic.{inl, inr}
+use Prim.Native.Nat.{ℕ}
 use native.Mathlib.Omega.{arith}
 use lib.ListN.{length}
 use Rattle.meaning.specs.Expression.{Re, marks, size}
-use Rattle.meaning.specs.Grammar.{Pattern, Longest}
-use Rattle.meaning.specs.Tree.{Tree, Before, First, Other, Flag, another, alone}
+use Rattle.meaning.specs.Grammar.{Pattern}
+use Rattle.meaning.specs.Tree.{Flag, another, alone}
 use Rattle.meaning.specs.ReadPattern.{ReadPattern, read-pattern}
 use Rattle.grammar.specs.Place.{longest-unique}
 use Rattle.grammar.specs.Reads.{one-reading}
@@ -46,6 +46,13 @@ refused-accepted (not-a-pattern x l) a = x _ _ (a .denotes)
 refused-accepted (nested p h) a = let z = sizes p (a .denotes) in omega arith
 refused-accepted (positions p h k) a = let z = sizes p (a .denotes) in omega arith
 refused-accepted (over-marks p h k j) a = let z = sizes p (a .denotes) in omega arith
+
+-- a refusal has a number of its own
+pub refused-not-0 : {pat : List ℕ} {n v : ℕ} → Refused pat n v → n ≡ 0 → ⊥
+refused-not-0 (not-a-pattern x l) e = omega arith
+refused-not-0 (nested p h) e = omega arith
+refused-not-0 (positions p h k) e = omega arith
+refused-not-0 (over-marks p h k j) e = omega arith
 
 pub accepted-one : {pat : List ℕ} {e e′ : Re} → Accepted pat e → Accepted pat e′ → e ≡ e′
 accepted-one a a′ = one-reading (a .denotes) (a′ .denotes) .0

@@ -1,12 +1,10 @@
 -- The readings to check hold: each line of the table, by one test that is computed over the whole of it.
-use mathlib.Core.Path.{_≡_, refl, sym, _∙_, ap}
+use mathlib.Core.Path.{_≡_, refl}
 use mathlib.Core.Bool.{Bool, true, false, _&&_, cond}
 use mathlib.Core.List.{List, [], _∷_}
 use Prim.Native.Nat.{ℕ, _≤_}
-use native.Mathlib.Omega.{arith}
 use lib.Dec.{T, eqb, leb, eqb→eq, leb→le}
-use Rattle.meaning.specs.Expression.{Re, marks, size}
-use Rattle.meaning.specs.Grammar.{Pattern}
+use Rattle.meaning.specs.Expression.{marks, size}
 use Rattle.meaning.specs.Readings.{Line, line, Holds, holds, table}
 use Rattle.grammar.specs.Machine.{kind, inner, start, run, Answer, none, read, result}
 use Rattle.grammar.specs.Viable.{accepted}

@@ -2,17 +2,17 @@
 -- tree of exactly as many tokens as `room-for` says. For no text it is ()+ in groups with +, for a text it is a in groups with ? under one *.
 use mathlib.Core.Path.{_≡_, refl, sym, _∙_, ap}
 use mathlib.Core.Bool.{Bool, true, false, _&&_, false≢true}
-use mathlib.Core.List.{List, [], _∷_, _++_, append-assoc, append-nil, cons≢nil, nil≢cons, tail-eq-of-cons-eq}
-use mathlib.Core.Logic.{_⊎_, inl, inr, ⊎-elim}
+use mathlib.Core.List.{List, [], _∷_, _++_, cons≢nil, nil≢cons, tail-eq-of-cons-eq}
+use mathlib.Core.Logic.{inl}
 use Prim.Native.Nat.{ℕ, zero, suc, _+_, _-_, _*_, _≤_, _<_, max}
 use native.Mathlib.Omega.{arith}
 use native.Mathlib.Nat.{mul-suc, mul-zero, mul-one}
-use lib.Dec.{leb, eqb, leb→le}
+use lib.Dec.{leb, leb→le}
 use lib.ListN.{length, length-append, replicate, length-replicate}
-use Rattle.meaning.specs.Expression.{Re, eps, pos, cat, alt, branch, star, plus, opt, marks, size}
-use Rattle.meaning.specs.Grammar.{range, only, one-of, signs, Pattern, Is, an-atom, an-item, a-branch, a-list, literal, unit, group, starred, plussed, optional, item-one, lone}
-use Rattle.meaning.specs.Tree.{opening, closing, letter, turn, Some, some, Tree, t-eps, t-pos, t-none, t-turn, t-once, t-more, t-skip, t-take, First, Before}
-use Rattle.meaning.specs.Limits.{pattern-limit, text-limit, nesting-limit, position-limit, mark-limit, room-for}
+use Rattle.meaning.specs.Expression.{Re, eps, pos, star, plus, opt, marks, size}
+use Rattle.meaning.specs.Grammar.{only, Is, an-atom, an-item, literal, unit, group, starred, plussed, optional, item-one, lone}
+use Rattle.meaning.specs.Tree.{letter, turn, Some, some, Tree, t-eps, t-pos, t-none, t-turn, t-once, t-more, t-skip, t-take, First}
+use Rattle.meaning.specs.Limits.{text-limit, mark-limit, room-for}
 use Rattle.meaning.specs.Promise.{Accepted}
 
 -- an accepted pattern with M marks, and a text of n bytes whose first tree is as long as any may be

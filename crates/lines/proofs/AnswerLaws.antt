@@ -9,21 +9,15 @@ use lib.ListN.{length, take, drop, replicate, length-append, length-take, length
 use lib.Seq.{take-all, take-length, drop-length}
 use borrow.Author.Tests.{leb-true, leb-false}
 use Rattle.meaning.specs.Expression.{Re}
-use Rattle.meaning.specs.Promise.{Answered, Refused, Judged}
+use Rattle.meaning.specs.Promise.{Answered, Judged}
 use Rattle.meaning.specs.Desk.{Desk, desk-lines, desk-cells, desk-tokens, input-limit, pattern-in, text-in}
-use Rattle.laws.specs.Promises.{desk-one}
+use Rattle.laws.specs.Promises.{desk-one, refused-not-0}
 use Rattle.lines.specs.Wrote.{Wrote, longest}
 use Rattle.lines.specs.Parts.{Split}
 use Rattle.lines.specs.Desked.{Answer, Desked}
 use Rattle.lines.proofs.WroteLaws.{wrote-kept, wrote-whole}
 
 -- ---- an answer of 0 gives a row that stands in the room
-
-refused-not-0 : {pat : List ℕ} {n v : ℕ} → Refused pat n v → n ≡ 0 → ⊥
-refused-not-0 (Refused.not-a-pattern none place) e = omega arith
-refused-not-0 (Refused.nested p d) e = omega arith
-refused-not-0 (Refused.positions p d s) e = omega arith
-refused-not-0 (Refused.over-marks p d s m) e = omega arith
 
 judged-room : {e : Re} {text room room′ : List ℕ} {n v f : ℕ} → Judged e text room n v f room′ → n ≡ 0 → v ≤ length room′
 judged-room (Judged.no-tree none place) z = absurd (omega arith)

@@ -1,6 +1,5 @@
 -- The promise of each call: which number, value, flag and contents of the lent rows may come of an input. One constructor for each line of
 -- the table of answers, with what says that no earlier line applies. Assumes nothing: these are definitions.
-use mathlib.Core.Path.{_≡_}
 use mathlib.Core.Bool.{cond}
 use mathlib.Core.List.{List, [], _∷_, _++_}
 use mathlib.Core.Logic.{_⊎_}

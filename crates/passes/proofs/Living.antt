@@ -7,7 +7,7 @@ use native.Mathlib.Omega.{arith}
 use Rattle.meaning.specs.Expression.{Re, size}
 use Rattle.meaning.specs.Grammar.{Bytes, no-byte, byte}
 use Rattle.bits.specs.Tally.{any}
-use Rattle.bits.proofs.Bools.{same, and-split, and-join}
+use Rattle.bits.specs.Truth.{alike, both, and-both}
 use Rattle.bits.proofs.Tallies.{any-at, any-some}
 use Rattle.sets.specs.declared.set.Set.{Set}
 use Rattle.sets.specs.Members.{has, limit, row}
@@ -22,7 +22,7 @@ use Rattle.passes.proofs.Rests.{onward-ext}
 module _ (e : Re) (mask follow : List ℕ) (last first : Set) (T : Tables e mask follow last first) where
   onward-resumes : (q : ℕ) (g : ℕ → Bool) (b : Bool) → q < size e → onward follow last q g b ≡ resumes 0 e q g b
   unfolding onward
-  onward-resumes q g b l = ap₂ (λ (x y : Bool). x || y) (same _ _ there back) (ap (λ (t : Bool). b && t) (T .ending q) ∙ and-comm b (ends 0 e q))
+  onward-resumes q g b l = ap₂ (λ (x y : Bool). x || y) (alike _ _ there back) (ap (λ (t : Bool). b && t) (T .ending q) ∙ and-comm b (ends 0 e q))
     where
       next : ℕ → Bool
       next p = has (row follow q) p && g p
@@ -30,14 +30,14 @@ module _ (e : Re) (mask follow : List ℕ) (last first : Set) (T : Tables e mask
       there : any next limit ≡ true → reaches 0 e q g ≡ true
       there i =
           let w = any-some next limit i in
-          let s = and-split (has (row follow q) (w .0)) (g (w .0)) (w .2) in
+          let s = both (has (row follow q) (w .0)) (g (w .0)) (w .2) in
           reaches-meet 0 e q g .1 (meet (sym (T .following q (w .0) l) ∙ s .0) (s .1))
 
       back : reaches 0 e q g ≡ true → any next limit ≡ true
       back i = go (reaches-meet 0 e q g .0 i)
         where
           go : Meet (follows 0 e q) g → any next limit ≡ true
-          go (meet {q = p} f k) = let h = T .following q p l ∙ f in any-at next limit p (has-lt (row follow q) p h) (and-join h k)
+          go (meet {q = p} f k) = let h = T .following q p l ∙ f in any-at next limit p (has-lt (row follow q) p h) (and-both h k)
 
   pub living-alive : {text : List ℕ} → Bytes text → (q : ℕ) → living mask follow last text q ≡ alive e text q
   unfolding living alive

@@ -13,7 +13,7 @@ use Rattle.meaning.specs.Grammar.{Bytes, no-byte, byte, Longest}
 use Rattle.meaning.specs.Tree.{Begins}
 use Rattle.grammar.specs.Open.{Open}
 use Rattle.bits.specs.Tally.{any}
-use Rattle.bits.proofs.Bools.{and-split, and-join}
+use Rattle.bits.specs.Truth.{both, and-both}
 use Rattle.bits.proofs.Tallies.{any-at, any-some}
 use Rattle.sets.specs.declared.set.Set.{Set}
 use Rattle.sets.specs.Members.{has, limit, row}
@@ -41,9 +41,9 @@ module _ (e : Re) (o : Open e) (mask follow : List ℕ) (last first : Set) (T : 
 
   reads-last : (g : ℕ → Bool) (i c : ℕ) → c < 256 → getD text i 0 ≡ c → Exactly g i → (q : ℕ) → (readers mask g c q ≡ true) ↔ Last e text i q
   reads-last g i c b z x q = (
-    λ h. let s = and-split (g q) (has (row mask c) q) h in
+    λ h. let s = both (g q) (has (row mask c) q) h in
         record { reached = x q .0 (s .0); read = ap (reads 0 e q) z ∙ sym (T .reading c q b) ∙ s .1 },
-    λ l. and-join (x q .1 (l .reached)) (T .reading c q b ∙ ap (reads 0 e q) (sym z) ∙ l .read),
+    λ l. and-both (x q .1 (l .reached)) (T .reading c q b ∙ ap (reads 0 e q) (sym z) ∙ l .read),
   )
 
   inside : {i q : ℕ} → Last e text i q → q < size e
@@ -54,13 +54,13 @@ module _ (e : Re) (o : Open e) (mask follow : List ℕ) (last first : Set) (T : 
   next r i x in-limit q′ = (
     λ h.
         let w = any-some (λ p. r p && has (row follow p) q′) limit h in
-        let s = and-split (r (w .0)) (has (row follow (w .0)) q′) (w .2) in
+        let s = both (r (w .0)) (has (row follow (w .0)) q′) (w .2) in
         let l = x (w .0) .0 (s .0) in
         reached-next e text i q′ .1 (w .0, l, sym (T .following (w .0) q′ (inside l)) ∙ s .1),
     λ h.
         let w = reached-next e text i q′ .0 h in
         let m = x (w .0) .1 (w .1) in
-        any-at (λ p. r p && has (row follow p) q′) limit (w .0) (in-limit (w .0) m) (and-join m (T .following (w .0) q′ (inside (w .1)) ∙ w .2)),
+        any-at (λ p. r p && has (row follow p) q′) limit (w .0) (in-limit (w .0) m) (and-both m (T .following (w .0) q′ (inside (w .1)) ∙ w .2)),
   )
 
   -- from what is reached after i bytes on
@@ -77,7 +77,7 @@ module _ (e : Re) (o : Open e) (mask follow : List ℕ) (last first : Set) (T : 
       these = reads-last g i c h z x
 
       fewer : (q : ℕ) → readers mask g c q ≡ true → q < limit
-      fewer q k = has-lt (row mask c) q (and-split (g q) (has (row mask c) q) k .1)
+      fewer q k = has-lt (row mask c) q (both (g q) (has (row mask c) q) k .1)
 
       go : (t : Bool) → any (readers mask g c) limit ≡ t → Longest (Begins e) text (i + cond t (suc (readable mask follow (joined follow (readers mask g c)) s)) 0)
       go true y =

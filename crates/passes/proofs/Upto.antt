@@ -9,7 +9,7 @@ use lib.Dec.{eqb, ltb}
 use lib.ListN.{getD}
 use borrow.Author.Tests.{eqb-true, eq-eqb, ltb-true, lt-ltb, le-ltb, ltb-false}
 use Rattle.bits.specs.Bit.{bit}
-use Rattle.bits.proofs.Bools.{same, and-split, and-join, or-split}
+use Rattle.bits.specs.Truth.{alike, both, and-both, either}
 use Rattle.sets.specs.Members.{has, row}
 use Rattle.passes.specs.Masks.{in-word, classed, Noted}
 
@@ -21,7 +21,7 @@ module _ (class : List ℕ) (q b : ℕ) (byte : b < 256) where
   -- word i is the word of b for one position
   upto-more : (i : ℕ) → upto class (i + 1) q b ≡ (upto class i q b || (in-word (getD class i 0) (i % 4) b && eqb q (i / 4)))
   unfolding in-word
-  upto-more i = same _ _ there back
+  upto-more i = alike _ _ there back
     where
       B : ℕ → Bool
       B j = bit 64 (getD class j 0) (b % 64)
@@ -30,31 +30,31 @@ module _ (class : List ℕ) (q b : ℕ) (byte : b < 256) where
       w = 4 * q + b / 64
 
       there : upto class (i + 1) q b ≡ true → (upto class i q b || ((eqb (b / 64) (i % 4) && B i) && eqb q (i / 4))) ≡ true
-      there e = let s = and-split (ltb w (i + 1)) (B w) e in go (ltb w i) refl (ltb-true w (i + 1) (s .0)) (s .1)
+      there e = let s = both (ltb w (i + 1)) (B w) e in go (ltb w i) refl (ltb-true w (i + 1) (s .0)) (s .1)
         where
           go : (t : Bool) → ltb w i ≡ t → w < i + 1 → B w ≡ true → ((t && B w) || ((eqb (b / 64) (i % 4) && B i) && eqb q (i / 4))) ≡ true
           go true l h d = ap (λ (x : Bool). x || ((eqb (b / 64) (i % 4) && B i) && eqb q (i / 4))) d
           go false l h d =
               let z : w ≡ i = omega (arith, ltb-false w i l) in
-              and-join (and-join (eq-eqb (b / 64) (i % 4) (omega arith)) (ap B (sym z) ∙ d)) (eq-eqb q (i / 4) (omega arith))
+              and-both (and-both (eq-eqb (b / 64) (i % 4) (omega arith)) (ap B (sym z) ∙ d)) (eq-eqb q (i / 4) (omega arith))
 
       back : (upto class i q b || ((eqb (b / 64) (i % 4) && B i) && eqb q (i / 4))) ≡ true → upto class (i + 1) q b ≡ true
       back e =
           ⊎-elim
-          (λ u. let s = and-split (ltb w i) (B w) u in and-join (lt-ltb w (i + 1) (omega (arith, ltb-true w i (s .0)))) (s .1))
+          (λ u. let s = both (ltb w i) (B w) u in and-both (lt-ltb w (i + 1) (omega (arith, ltb-true w i (s .0)))) (s .1))
           (λ u.
-          let s = and-split (eqb (b / 64) (i % 4) && B i) (eqb q (i / 4)) u in
-          let t = and-split (eqb (b / 64) (i % 4)) (B i) (s .0) in
+          let s = both (eqb (b / 64) (i % 4) && B i) (eqb q (i / 4)) u in
+          let t = both (eqb (b / 64) (i % 4)) (B i) (s .0) in
           let z : w ≡ i = omega (arith, eqb-true q (i / 4) (s .1), eqb-true (b / 64) (i % 4) (t .0)) in
-          and-join (lt-ltb w (i + 1) (omega arith)) (ap B z ∙ t .1))
-          (or-split (upto class i q b) _ e)
+          and-both (lt-ltb w (i + 1) (omega arith)) (ap B z ∙ t .1))
+          (either (upto class i q b) _ e)
 
   -- the words of k positions
   pub upto-all : (k : ℕ) → upto class (4 * k) q b ≡ classed class k q b
   unfolding classed
   upto-all k =
       ap (λ (t : Bool). t && bit 64 (getD class (4 * q + b / 64) 0) (b % 64))
-      (same _ _ (λ e. lt-ltb q k (omega (arith, ltb-true (4 * q + b / 64) (4 * k) e))) (λ e. lt-ltb (4 * q + b / 64) (4 * k) (omega (arith, ltb-true q k e))))
+      (alike _ _ (λ e. lt-ltb q k (omega (arith, ltb-true (4 * q + b / 64) (4 * k) e))) (λ e. lt-ltb (4 * q + b / 64) (4 * k) (omega (arith, ltb-true q k e))))
 
   pub upto-none : upto class 0 q b ≡ false
   upto-none = ap (λ (t : Bool). t && bit 64 (getD class (4 * q + b / 64) 0) (b % 64)) (le-ltb (4 * q + b / 64) 0 (omega arith))

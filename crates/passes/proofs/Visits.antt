@@ -7,7 +7,7 @@ use Prim.Native.Nat.{ℕ, _≤_}
 use lib.Dec.{eqb}
 use borrow.Author.Tests.{eqb-true, eqb-false}
 use Rattle.bits.specs.Tally.{any}
-use Rattle.bits.proofs.Bools.{same, and-split, and-join, or-split}
+use Rattle.bits.specs.Truth.{alike, both, and-both, either}
 use Rattle.bits.proofs.Tallies.{any-at, any-some}
 use Rattle.sets.specs.declared.set.Set.{Set}
 use Rattle.sets.specs.Members.{has, limit, row, Least}
@@ -48,27 +48,27 @@ module _ (left rest : Set) (q : ℕ) (here : has left q ≡ true) (less : (k : �
   -- what q brings
   pub joined-more : (follow : List ℕ) (k : ℕ) → joined follow (has left) k ≡ (has (row follow q) k || joined follow (has rest) k)
   unfolding joined
-  joined-more follow k = same _ _ there back
+  joined-more follow k = alike _ _ there back
     where
       via : Set → ℕ → Bool
       via s p = has s p && has (row follow p) k
 
       there : any (via left) limit ≡ true → (has (row follow q) k || any (via rest) limit) ≡ true
-      there e = let w = any-some (via left) limit e in let b = and-split (has left (w .0)) (has (row follow (w .0)) k) (w .2) in go (eqb (w .0) q) refl (w .0) refl b
+      there e = let w = any-some (via left) limit e in let b = both (has left (w .0)) (has (row follow (w .0)) k) (w .2) in go (eqb (w .0) q) refl (w .0) refl b
         where
           go : (t : Bool) → eqb (any-some (via left) limit e .0) q ≡ t → (p : ℕ) → any-some (via left) limit e .0 ≡ p → (has left p ≡ true) × (has (row follow p) k ≡ true) → (has (row follow q) k || any (via rest) limit) ≡ true
           go true i p j (l, r) = ap (λ (x : Bool). x || any (via rest) limit) (ap (λ (x : ℕ). has (row follow x) k) (sym (eqb-true _ q i) ∙ j) ∙ r)
           go false i p j (l, r) =
               ap (λ (x : Bool). has (row follow q) k || x)
-              (any-at (via rest) limit p (has-lt left p l) (and-join (without-stays left rest q less p l (λ z. eqb-false _ q i (j ∙ z))) r))
+              (any-at (via rest) limit p (has-lt left p l) (and-both (without-stays left rest q less p l (λ z. eqb-false _ q i (j ∙ z))) r))
               ∙ or-true (has (row follow q) k)
 
       back : (has (row follow q) k || any (via rest) limit) ≡ true → any (via left) limit ≡ true
       back e =
-          ⊎-elim (λ r. any-at (via left) limit q (has-lt left q here) (and-join here r))
-          (λ a. let w = any-some (via rest) limit a in let b = and-split (has rest (w .0)) (has (row follow (w .0)) k) (w .2) in
-          any-at (via left) limit (w .0) (w .1) (and-join (without-was left rest q less (w .0) (b .0)) (b .1)))
-          (or-split (has (row follow q) k) (any (via rest) limit) e)
+          ⊎-elim (λ r. any-at (via left) limit q (has-lt left q here) (and-both here r))
+          (λ a. let w = any-some (via rest) limit a in let b = both (has rest (w .0)) (has (row follow (w .0)) k) (w .2) in
+          any-at (via left) limit (w .0) (w .1) (and-both (without-was left rest q less (w .0) (b .0)) (b .1)))
+          (either (has (row follow q) k) (any (via rest) limit) e)
 
 -- when none is left, all is found
 pub found-all : (left : Set) (q : ℕ) → Least left q → limit ≤ q → (P f : ℕ → Bool) (k : ℕ) → f k ≡ (f k || (has left k && P k))
@@ -81,5 +81,5 @@ joined-none left q l h follow k = go (any (λ p. has left p && has (row follow p
     go : (t : Bool) → any (λ p. has left p && has (row follow p) k) limit ≡ t → t ≡ false
     go true e =
         let w = any-some (λ p. has left p && has (row follow p) k) limit e in
-        absurd (true≢false (sym (and-split (has left (w .0)) (has (row follow (w .0)) k) (w .2) .0) ∙ least-none left q l h (w .0)))
+        absurd (true≢false (sym (both (has left (w .0)) (has (row follow (w .0)) k) (w .2) .0) ∙ least-none left q l h (w .0)))
     go false e = refl

@@ -10,7 +10,7 @@ use lib.Dec.{eqb, ltb}
 use borrow.Author.Tests.{eqb-true, eqb-false, eq-eqb, ltb-true, ltb-false}
 use Rattle.bits.specs.Bit.{bit}
 use Rattle.bits.proofs.Bits.{bit-none, bit-before, bit-first, bit-drop, bit-same}
-use Rattle.bits.proofs.Bools.{same, and-join}
+use Rattle.bits.specs.Truth.{alike, and-both}
 use Rattle.sets.specs.declared.set.Set.{Set}
 use Rattle.sets.specs.Members.{has, row, Stored}
 use Rattle.passes.specs.Masks.{in-word}
@@ -45,7 +45,7 @@ module _ (x w : ℕ) (z : 0 < x) (f : x < 2 ^ 64) where
       let i : b ≡ 64 * w + low = eqb-true _ _ e in
       let d : b / 64 ≡ w = omega arith in
       let m : b % 64 ≡ low = omega arith in
-      and-join (eq-eqb _ _ d) (ap (bit 64 x) m ∙ bit-first 64 x l)
+      and-both (eq-eqb _ _ d) (ap (bit 64 x) m ∙ bit-first 64 x l)
 
   -- and is the only one that leaves
   low-out : (b : ℕ) → in-word (bitAnd x (x - 1)) w b ≡ (in-word x w b && not (eqb b (64 * w + low)))
@@ -56,7 +56,7 @@ module _ (x w : ℕ) (z : 0 < x) (f : x < 2 ^ 64) where
       go true e =
           let l = lowest-lt x z f in
           let d : b / 64 ≡ w = eqb-true _ _ e in
-          let k : eqb (b % 64) low ≡ eqb b (64 * w + low) = same _ _ (λ i. let m = eqb-true (b % 64) low i in eq-eqb b (64 * w + low) (omega arith)) (λ i. let m = eqb-true b (64 * w + low) i in eq-eqb (b % 64) low (omega arith)) in
+          let k : eqb (b % 64) low ≡ eqb b (64 * w + low) = alike _ _ (λ i. let m = eqb-true (b % 64) low i in eq-eqb b (64 * w + low) (omega arith)) (λ i. let m = eqb-true b (64 * w + low) i in eq-eqb (b % 64) low (omega arith)) in
           bit-drop 64 x (b % 64) z f ∙ ap (λ (t : Bool). bit 64 x (b % 64) && not t) k
       go false e = refl
 

@@ -111,11 +111,6 @@ long-part (long-pattern h) z = h
 long-part (refused h r) z = absurd (omega (arith, refused-number r))
 long-part (accepted a) z = absurd (omega arith)
 
-short-part : {pat : List ℕ} {n v : ℕ} {Q : meaning.ReadPattern} → Read pat n v Q → (n ≡ 1 → ⊥) → length pat ≤ pattern-limit
-short-part (long-pattern h) z = absurd (z refl)
-short-part (refused h r) z = h
-short-part (accepted a) z = a .short
-
 refused-part : {pat : List ℕ} {n v : ℕ} {Q : meaning.ReadPattern} → Read pat n v Q → (n ≡ 0 → ⊥) → (n ≡ 1 → ⊥) → Refused pat n v
 refused-part (long-pattern h) y z = absurd (z refl)
 refused-part (refused h r) y z = r
@@ -127,9 +122,6 @@ module _ {pat : List ℕ} (a : Answer) (h : Answers pat a) where
 
   pub too-long : a .reading ≡ readings.TooLong → pattern-limit < length pat
   too-long e = long-part h (ap number-of e)
-
-  pub not-long : (number-of (a .reading) ≡ 1 → ⊥) → length pat ≤ pattern-limit
-  not-long = short-part h
 
   pub refusal : (number-of (a .reading) ≡ 0 → ⊥) → (number-of (a .reading) ≡ 1 → ⊥) → Refused pat (number-of (a .reading)) (value-of (a .reading))
   refusal = refused-part h

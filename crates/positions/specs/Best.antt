@@ -9,7 +9,7 @@ use Rattle.positions.specs.Parts.{Then, stay, over, Put, puts}
 use Rattle.positions.specs.Positions.{Out, pass, at, at-pass, pass-at}
 use Rattle.positions.specs.Runs.{Run, run, rowOf, outOf, otherOf, andThen, put}
 use Rattle.positions.specs.Tests.{Ok, ok-at, ok-pass, ok-stays, ok-passes}
-use Rattle.positions.specs.Truth.{or-left, or-right, either}
+use Rattle.bits.specs.Truth.{or-left, or-right, either}
 
 -- ρ stands before ρ′, which ends at o′, whatever follows the two, if what follows a pass is above the marks m + 1 to m + k
 pub data Less (m k : ℕ) : List ℕ → List ℕ → Out → Type 0 where

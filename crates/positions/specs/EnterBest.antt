@@ -14,7 +14,7 @@ use Rattle.positions.specs.Positions.{Out, pass, at, Enter, e-eps, e-pos
 use Rattle.positions.specs.Row.{Begun, begun, Row, row-nil, row-cons, enter-row, marked-begun}
 use Rattle.positions.specs.Runs.{Run, run, andThen, put, also, closes, through, loop, enterRun}
 use Rattle.positions.specs.Tests.{Ok, ok-at, ok-pass, ok-stays, ok-passes, nullable, leads, feasible, leads-full, feasible-full, feasible-cat, feasible-right}
-use Rattle.positions.specs.Truth.{or-left, or-right, either, or-else}
+use Rattle.bits.specs.Truth.{or-left, or-right, either, or-else}
 
 -- a row that enters e stands above the marks before e, and one of a marked expression stands before none
 row-above : {m k : ℕ} {ρ : List ℕ} → Row m k ρ → Above m ρ

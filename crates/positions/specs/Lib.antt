@@ -1,5 +1,4 @@
 -- The mathematics of trees. Each module is one subject.
-pub mod Truth
 pub mod Positions
 pub mod Places
 pub mod Parts

@@ -16,7 +16,7 @@ use Rattle.positions.specs.ResumeBest.{resume-best}
 use Rattle.positions.specs.Runs.{Run, run, rowOf, outOf, otherOf, resumeRun}
 use Rattle.positions.specs.Sets.{follows, follows-full, follows-some}
 use Rattle.positions.specs.Tests.{Ok, ok-at, ok-pass}
-use Rattle.positions.specs.Truth.{alike}
+use Rattle.bits.specs.Truth.{alike}
 
 less-order : {m k : ℕ} {ρ ρ′ : List ℕ} {o : Out} → Less m k ρ ρ′ o → Before ρ ρ′
 less-order (l-here h) = b-here h

@@ -14,7 +14,7 @@ use Rattle.meaning.specs.Tree.{closing, Some, some, Tree, t-eps, t-pos, t-cat, 
 use Rattle.grammar.specs.Open.{Open, names, o-eps, o-pos, o-cat, o-alt, o-branch, o-star, o-plus, o-opt}
 use Rattle.positions.specs.Complete.{lift, join, complete}
 use Rattle.positions.specs.Positions.{Out, pass, at, Resume, r-pos, r-cat-in, r-cat-over, r-cat-right, r-left, r-right, r-branch-in, r-branch-out, r-star-in, r-star-out, r-plus-in, r-plus-out, r-opt-in, r-opt-out, At, a-pos, a-cat-left, a-cat-right, a-left, a-right, a-branch, a-star, a-plus, a-opt, Trace, done, step, link, Walk, walk}
-use Rattle.positions.specs.Sets.{firsts, follows, firsts-full, firsts-some, follows-full, follows-some, firsts-in, follows-in}
+use Rattle.positions.specs.Sets.{firsts, follows, firsts-full, firsts-some, follows-full, follows-some}
 use Rattle.positions.specs.Sound.{walked}
 use Rattle.positions.specs.Tests.{reads, reads-full, reads-some}
 
@@ -84,10 +84,6 @@ reached-next e text i q′ = (λ x. go x, λ x. r-next (x .1 .reached) (x .1 .re
   where
     go : Reached e text (suc i) q′ → (q : ℕ) × Last e text i q × (follows 0 e q q′ ≡ true)
     go (r-next x h k) = (_, record { reached = x; read = h }, k)
-
-pub reached-in : (e : Re) (text : List ℕ) (i q : ℕ) → Reached e text i q → q < size e
-reached-in e text i q (r-first h) = let k = firsts-in 0 e q h in omega arith
-reached-in e text i q (r-next {q = j} x h k) = let l = follows-in 0 e j q k in omega arith
 
 reached-same : {e : Re} {s t : List ℕ} {k q : ℕ} → ((i : ℕ) → i < k → getD s i 0 ≡ getD t i 0) → Reached e s k q → Reached e t k q
 reached-same f (r-first h) = r-first h

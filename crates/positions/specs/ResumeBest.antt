@@ -15,7 +15,7 @@ use Rattle.positions.specs.Parts.{Then, stay, over, Put, puts, into, pas
 use Rattle.positions.specs.Positions.{Out, pass, Resume, r-pos, r-cat-right, r-left, r-right}
 use Rattle.positions.specs.Runs.{Run, andThen, put, closes, loop, enterRun, resumeRun}
 use Rattle.positions.specs.Tests.{Ok, ok-at, ok-pass, ok-stays, Can, leads, feasible, leads-full, feasible-full}
-use Rattle.positions.specs.Truth.{or-left, or-right}
+use Rattle.bits.specs.Truth.{or-left, or-right}
 
 can-ways : {R S : List ℕ → Out → Type 0} {g : ℕ → Bool} {b : Bool} → ((ρ : List ℕ) (o : Out) → R ρ o → S ρ o) → Can R g b → Can S g b
 can-ways to (ρ, o, w, h) = (ρ, o, to ρ o w, h)

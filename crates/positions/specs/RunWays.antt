@@ -16,7 +16,7 @@ use Rattle.positions.specs.Positions.{Out, pass, at, Enter, e-eps, e-pos
 use Rattle.positions.specs.Room.{spare, enter-room, resume-room}
 use Rattle.positions.specs.Runs.{Run, run, rowOf, outOf, andThen, put, also, closes, loop, enterRun, resumeRun}
 use Rattle.positions.specs.Tests.{nullable, leads, feasible, feasible-cat, feasible-right}
-use Rattle.positions.specs.Truth.{or-left, or-else}
+use Rattle.bits.specs.Truth.{or-left, or-else}
 
 -- a run that can reach the goal passes only if it may
 both-pass : (r s : Run) → outOf (andThen r s) ≡ pass → (outOf r ≡ pass) × (outOf s ≡ pass)

@@ -2,15 +2,15 @@
 use mathlib.Core.Path.{_≡_, refl, sym, _∙_}
 use mathlib.Core.Bool.{Bool, true, false, _&&_, _||_, cond, or-false, and-true, and-false}
 use mathlib.Core.List.{List}
-use mathlib.Core.Logic.{_⊎_, inl, inr, _↔_}
+use mathlib.Core.Logic.{_↔_}
 use Prim.Native.Nat.{ℕ, _+_}
 use lib.Dec.{ltb, eqb}
 use borrow.Author.Tests.{eqb-true, eq-eqb}
 use Rattle.meaning.specs.Expression.{Re, eps, pos, cat, alt, branch, star, plus, opt, size}
 use Rattle.positions.specs.Places.{In, inside, source, placed, entered, resumed}
 use Rattle.positions.specs.Positions.{at, Enter, Resume}
-use Rattle.positions.specs.Tests.{nullable, leads, reads, ends, reaches, resumes, reads-some, hits, leads-full, leads-some, ends-some, reaches-full, reaches-some}
-use Rattle.positions.specs.Truth.{or-left, or-right, and-both, either, both, alike}
+use Rattle.positions.specs.Tests.{nullable, leads, reads, ends, reaches, reads-some, hits, leads-full, leads-some, ends-some, reaches-full, reaches-some}
+use Rattle.bits.specs.Truth.{alike}
 
 -- q is in the set of the positions that e may begin with; that may follow position j of e. A set has the member q if it reaches the goal
 -- that is q alone, so these have the equations of `leads` and `reaches`.
@@ -38,12 +38,6 @@ pub follows-some : (m p : ℕ) (e : Re) (j q : ℕ) → follows p e j q ≡ true
 follows-some m p e j q h = elim (reaches-some m p e j (eqb q) h) [ hits {ρ = ρ} {q = q′} w k ↦ (ρ, rw (eqb-true q q′ k) w) ]
 
 -- members are positions of e
-pub firsts-in : (p : ℕ) (e : Re) (q : ℕ) → firsts p e q ≡ true → In p e q
-firsts-in p e q h = inside (entered (firsts-some 0 p e q h .1))
-
-pub follows-in : (p : ℕ) (e : Re) (j q : ℕ) → follows p e j q ≡ true → In p e q
-follows-in p e j q h = inside (resumed (follows-some 0 p e j q h .1))
-
 pub ends-in : (p : ℕ) (e : Re) (j : ℕ) → ends p e j ≡ true → In p e j
 ends-in p e j h = source (ends-some 0 p e j h .1)
 
@@ -57,18 +51,9 @@ leads-meet p e g = (λ h. elim (leads-some 0 p e g h) [ hits w k ↦ meet (first
 pub reaches-meet : (p : ℕ) (e : Re) (j : ℕ) (g : ℕ → Bool) → (reaches p e j g ≡ true) ↔ Meet (follows p e j) g
 reaches-meet p e j g = (λ h. elim (reaches-some 0 p e j g h) [ hits w k ↦ meet (follows-full w) k ], λ h. elim h [ meet {q = q} i k ↦ reaches-full g (follows-some 0 p e j q i .1) k ])
 
-pub resumes-meet : (p : ℕ) (e : Re) (j : ℕ) (g : ℕ → Bool) (b : Bool) → (resumes p e j g b ≡ true) ↔ (Meet (follows p e j) g ⊎ ((ends p e j ≡ true) × (b ≡ true)))
-resumes-meet p e j g b = (
-  λ h. elim (either (reaches p e j g) _ h) [ inl i ↦ inl (reaches-meet p e j g .0 i) | inr i ↦ inr (both (ends p e j) b i) ],
-  λ h. elim h [ inl i ↦ or-left _ (reaches-meet p e j g .1 i) | inr i ↦ or-right (reaches p e j g) (and-both (i .0) (i .1)) ],
-)
-
 -- tests of the same goal
 pub leads-same : (p : ℕ) (e : Re) (g g′ : ℕ → Bool) → ((q : ℕ) → g q ≡ g′ q) → leads p e g ≡ leads p e g′
 leads-same p e g g′ s = alike _ _ (λ h. elim (leads-some 0 p e g h) [ hits {q = q} w k ↦ leads-full g′ w (sym (s q) ∙ k) ]) (λ h. elim (leads-some 0 p e g′ h) [ hits {q = q} w k ↦ leads-full g w (s q ∙ k) ])
-
-pub reaches-same : (p : ℕ) (e : Re) (j : ℕ) (g g′ : ℕ → Bool) → ((q : ℕ) → g q ≡ g′ q) → reaches p e j g ≡ reaches p e j g′
-reaches-same p e j g g′ s = alike _ _ (λ h. elim (reaches-some 0 p e j g h) [ hits {q = q} w k ↦ reaches-full g′ w (sym (s q) ∙ k) ]) (λ h. elim (reaches-some 0 p e j g′ h) [ hits {q = q} w k ↦ reaches-full g w (s q ∙ k) ])
 
 -- From the root down: a tells whether q may come after e, b whether the end may. Then q may follow position j of e, and j may be the last.
 unfoldable pub followsIn : ℕ → Re → Bool → ℕ → ℕ → Bool

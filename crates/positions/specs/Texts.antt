@@ -3,10 +3,8 @@ use mathlib.Core.Path.{_≡_, refl, sym, _∙_, ap}
 use mathlib.Core.Bool.{Bool, true, false, _||_, false≢true}
 use mathlib.Core.List.{List, [], _∷_, _++_}
 use mathlib.Core.Logic.{_⊎_, inl, inr, _↔_}
-use Prim.Native.Nat.{ℕ, suc, _≤_, _<_}
+use Prim.Native.Nat.{ℕ, _≤_}
 use native.Mathlib.Omega.{arith}
-use lib.ListN.{length, getD, drop}
-use lib.Seq.{drop-cons, drop-length}
 use Rattle.meaning.specs.Expression.{Re, marks}
 use Rattle.meaning.specs.Tree.{letter, Tree, Before, b-here, b-longer, b-next, First, Other}
 use Rattle.grammar.specs.Fair.{Fair}
@@ -20,7 +18,7 @@ use Rattle.positions.specs.ResumeBest.{resume-best}
 use Rattle.positions.specs.Runs.{Run, run, outOf, enterRun, resumeRun}
 use Rattle.positions.specs.Sound.{walked}
 use Rattle.positions.specs.Tests.{Ok, ok-at, ok-pass, feasible}
-use Rattle.positions.specs.Truth.{or-left, or-right, either}
+use Rattle.bits.specs.Truth.{or-left, or-right, either}
 
 -- a whole row, and whether there is another
 pub data Text : Type 0 where
@@ -46,16 +44,6 @@ restRun e (at q) (c ∷ s) = let r = resumeRun 0 0 e q (alive e s) (ended s) in 
 
 unfoldable pub textRun : Re → List ℕ → Text
 textRun e s = let r = enterRun 0 0 e (alive e s) (ended s) in chain r (restRun e (outOf r) s)
-
--- by places of a text
-pub rest-at : (e : Re) (s : List ℕ) (i q : ℕ) → i < length s
-    → restRun e (at q) (drop i s) ≡ (let r = resumeRun 0 0 e q (alive e (drop (suc i) s)) (ended (drop (suc i) s)) in read (getD s i 0) (chain r (restRun e (outOf r) (drop (suc i) s))))
-unfolding restRun
-rest-at e s i q h = rw (drop-cons s i 0 h)
-
-pub rest-end : (e : Re) (s : List ℕ) (o : Out) → restRun e o (drop (length s) s) ≡ text [] false
-unfolding restRun
-rest-end e s o = rw (drop-length s)
 
 data Judged (t : Text) (r : List ℕ) : Type 0 where
   equal : rowIn t ≡ r → Judged t r

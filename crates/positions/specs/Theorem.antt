@@ -12,7 +12,7 @@ use Rattle.positions.specs.Positions.{link, Walk}
 use Rattle.positions.specs.Sets.{firsts, Meet, leads-meet}
 use Rattle.positions.specs.Tests.{nullable, leads, feasible, hits, leads-some, feasible-full}
 use Rattle.positions.specs.Texts.{rowIn, otherIn, textRun, text-first, text-other}
-use Rattle.positions.specs.Truth.{alike}
+use Rattle.bits.specs.Truth.{alike}
 
 -- the walk can begin: the empty text is passed, or an alive position comes first
 abbrev pub found : Re → List ℕ → Bool

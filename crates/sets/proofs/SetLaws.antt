@@ -14,7 +14,7 @@ use borrow.Author.Tests.{ne-eqb, not-true, not-false}
 use Rattle.sets.specs.declared.set.Set.{Set}
 use Rattle.sets.specs.Members.{has, limit, size, vacant, meets, Least, SetFits, row}
 use Rattle.sets.proofs.set.Set.{the-row}
-use Rattle.bits.proofs.Bools.{same, and-split, and-join, or-split}
+use Rattle.bits.specs.Truth.{alike, both, and-both, either}
 use Rattle.bits.proofs.Bits.{bit-lt, bit-same}
 use Rattle.bits.proofs.Tallies.{any-at, any-none, any-some, tally-less}
 
@@ -57,32 +57,32 @@ module _ (s : Set) where
 module _ (s t : Set) where
   pub meets-at : (q : ℕ) → has s q ≡ true → has t q ≡ true → meets s t ≡ true
   unfolding meets
-  meets-at q e f = any-at (λ q. has s q && has t q) limit q (has-lt s q e) (and-join e f)
+  meets-at q e f = any-at (λ q. has s q && has t q) limit q (has-lt s q e) (and-both e f)
 
   pub meets-some : meets s t ≡ true → (q : ℕ) × (has s q ≡ true) × (has t q ≡ true)
   unfolding meets
   meets-some e =
       let w = any-some (λ q. has s q && has t q) limit e in
-      let b = and-split (has s (w .0)) (has t (w .0)) (w .2) in
+      let b = both (has s (w .0)) (has t (w .0)) (w .2) in
       (w .0, b .0, b .1)
 
 -- what a union meets
 pub meets-union : (a b u t : Set) → ((q : ℕ) → has u q ≡ (has a q || has b q)) → meets u t ≡ (meets a t || meets b t)
-meets-union a b u t joined = same _ _ there back
+meets-union a b u t joined = alike _ _ there back
   where
     there : meets u t ≡ true → (meets a t || meets b t) ≡ true
     there e =
         let w = meets-some u t e in
         ⊎-elim (λ h. ap (λ (x : Bool). x || meets b t) (meets-at a t (w .0) h (w .2)))
         (λ h. ap (λ (x : Bool). meets a t || x) (meets-at b t (w .0) h (w .2)) ∙ or-true (meets a t))
-        (or-split (has a (w .0)) (has b (w .0)) (sym (joined (w .0)) ∙ w .1))
+        (either (has a (w .0)) (has b (w .0)) (sym (joined (w .0)) ∙ w .1))
 
     back : (meets a t || meets b t) ≡ true → meets u t ≡ true
     back e =
         ⊎-elim
         (λ h. let w = meets-some a t h in meets-at u t (w .0) (joined (w .0) ∙ ap (λ (x : Bool). x || has b (w .0)) (w .1)) (w .2))
         (λ h. let w = meets-some b t h in meets-at u t (w .0) (joined (w .0) ∙ ap (λ (x : Bool). has a (w .0) || x) (w .1) ∙ or-true (has a (w .0))) (w .2))
-        (or-split (meets a t) (meets b t) e)
+        (either (meets a t) (meets b t) e)
 
 -- ---- r is s without p: a loop over the members has `size` as its measure
 
@@ -92,7 +92,7 @@ module _ (s r : Set) (p : ℕ) (less : (q : ℕ) → has r q ≡ (has s q && not
   without-fewer e = tally-less (has s) (has r) limit p (has-lt s p e) e less
 
   pub without-was : (q : ℕ) → has r q ≡ true → has s q ≡ true
-  without-was q e = and-split (has s q) (not (eqb q p)) (sym (less q) ∙ e) .0
+  without-was q e = both (has s q) (not (eqb q p)) (sym (less q) ∙ e) .0
 
   pub without-stays : (q : ℕ) → has s q ≡ true → (q ≡ p → ⊥) → has r q ≡ true
   without-stays q e n = less q ∙ ap₂ (λ (a b : Bool). a && not b) e (ne-eqb q p n)

@@ -8,19 +8,14 @@ use lib.Dec.{ltb}
 use lib.ListN.{length}
 use borrow.Author.Tests.{ltb-true, ltb-false, le-leb, lt-leb}
 use Rattle.meaning.specs.Expression.{Re}
-use Rattle.meaning.specs.Promise.{Refused, not-a-pattern, nested, positions, over-marks, Judged, small-room, Answered, few-cells}
+use Rattle.meaning.specs.Promise.{Judged, small-room, Answered, few-cells}
+use Rattle.laws.specs.Promises.{refused-not-0}
 use Rattle.tree.specs.declared.search.Found.{Found}
 use Rattle.tree.specs.declared.search.Found.the-variants as found
 use Rattle.tree.specs.declared.first_tree.Outcome.{Outcome}
 use Rattle.tree.specs.declared.first_tree.Outcome.the-variants as outcome
 use Rattle.tree.specs.Outcome as told
 use Rattle.tree.specs.Search.{Sought, no-tree, a-tree, Searched, sought, number-of, value-of, flag-of, tell}
-
-refused-some : {pat : List ℕ} {n v : ℕ} → Refused pat n v → n ≡ 0 → ⊥
-refused-some (not-a-pattern x l) e = omega arith
-refused-some (nested p h) e = omega arith
-refused-some (positions p h k) e = omega arith
-refused-some (over-marks p h k j) e = omega arith
 
 -- no tree
 plain-sought : {e : Re} {text room room′ : List ℕ} {n v f : ℕ} → Sought e text room n v f room′ → (n ≡ 0 → ⊥) → Judged e text room n v f room′
@@ -43,7 +38,7 @@ pub fits : {pat text cells room cells′ room′ : List ℕ} {n v f : ℕ} → S
 fits (Searched.long-pattern h) z l = absurd (omega arith)
 fits (Searched.long-text h k) z l = absurd (omega arith)
 fits (Searched.few-cells h k j) z l = absurd (omega arith)
-fits (Searched.refused g r) z l = absurd (refused-some r z)
+fits (Searched.refused g r) z l = absurd (refused-not-0 r z)
 fits (sought g a s) z l = Answered.judged g a (fits-sought s z l)
 
 -- a tree whose row it does not hold
@@ -55,7 +50,7 @@ pub long : {pat text cells room cells′ room′ : List ℕ} {n v f : ℕ} → S
 long (Searched.long-pattern h) z l = absurd (omega arith)
 long (Searched.long-text h k) z l = absurd (omega arith)
 long (Searched.few-cells h k j) z l = absurd (omega arith)
-long (Searched.refused g r) z l = absurd (refused-some r z)
+long (Searched.refused g r) z l = absurd (refused-not-0 r z)
 long (sought g a s) z l = Answered.judged g a (long-sought s z l)
 
 abbrev tree-told : ℕ → Bool → Bool → Outcome

@@ -12,7 +12,7 @@ use Rattle.meaning.specs.Expression.{Re, size}
 use Rattle.positions.specs.Places.{In}
 use Rattle.positions.specs.Tests.{nullable, ends}
 use Rattle.positions.specs.Sets.{firsts, followsIn, endsIn, ends-in, ends-down}
-use Rattle.bits.proofs.Bools.{and-split}
+use Rattle.bits.specs.Truth.{both}
 use Rattle.sets.specs.declared.set.Set.{Set}
 use Rattle.sets.specs.Members.{has, row, rows}
 use Rattle.walks.specs.Tables.{Held, flag, Filled}
@@ -76,7 +76,7 @@ out-of : (p : ℕ) (e : Re) (b : Bool) (j : ℕ) → (In p e j → ⊥) → ends
 out-of p e b j n = go (endsIn p e b j) refl
   where
     go : (t : Bool) → endsIn p e b j ≡ t → endsIn p e b j ≡ false
-    go true z = absurd (n (ends-in p e j (and-split (ends p e j) b (sym (ends-down p e b j) ∙ z) .0)))
+    go true z = absurd (n (ends-in p e j (both (ends p e j) b (sym (ends-down p e b j) ∙ z) .0)))
     go false z = z
 
 side : (p : ℕ) (x y : Re) (b c : Bool) (j : ℕ) → (endsIn p x c j || endsIn (p + size x) y b j) ≡ cond (ltb j (p + size x)) (endsIn p x c j) (endsIn (p + size x) y b j)

@@ -11,7 +11,7 @@ use Rattle.meaning.specs.Expression.{Re}
 use Rattle.laws.specs.Holds.{Holds}
 use Rattle.positions.specs.Tests.{leads, feasible, nullable}
 use Rattle.positions.specs.Sets.{firsts, Meet, meet, leads-meet}
-use Rattle.bits.proofs.Bools.{same}
+use Rattle.bits.specs.Truth.{alike}
 use Rattle.sets.specs.declared.set.Set.{Set}
 use Rattle.sets.specs.Members.{has, meets, row}
 use Rattle.sets.proofs.SetLaws.{meets-some, meets-at}
@@ -29,7 +29,7 @@ meets-leads : {ks gs : List ℕ} {m p j : ℕ} {e : Re} (s goal : Set) → First
 meets-leads {m = m} {p = p} {e = e} s goal F h =
     let w = meets-meet s goal (firsts p e) (F .has-firsts e m p h) in
     let l = leads-meet p e (has goal) in
-    same (meets s goal) (leads p e (has goal)) (λ z. l .1 (w .0 z)) (λ z. w .1 (l .0 z))
+    alike (meets s goal) (leads p e (has goal)) (λ z. l .1 (w .0 z)) (λ z. w .1 (l .0 z))
 
 pub flag-of : (n : Bool) → not (eqb (flag n) 0) ≡ n
 flag-of true = refl

@@ -2,28 +2,17 @@
 use mathlib.Core.Path.{_≡_, _∙_}
 use mathlib.Core.Bool.{true, false}
 use mathlib.Core.List.{List}
-use Prim.Native.Nat.{ℕ, _+_, _-_, _*_, _<_, _≤_, _^_}
+use Prim.Native.Nat.{ℕ, _-_}
 use native.Mathlib.Omega.{arith}
 use lib.ListN.{length}
-use Rattle.meaning.specs.Expression.{Re, marks, size}
-use Rattle.meaning.specs.Limits.{mark-limit}
-use Rattle.meaning.specs.ReadPattern.{nodes, read-pattern}
-use Rattle.laws.specs.Holds.{nodes-some, read-pattern-holds}
 use Rattle.positions.specs.Sets.{follows-root, ends-root}
 use Rattle.sets.specs.declared.set.Set.{Set}
 use Rattle.sets.specs.Members.{has, limit, row, rows}
 use Rattle.walks.specs.Tables.{Held, Walked, Known, number, NullAt, FirstAt, EndAt}
-use Rattle.walks.specs.Enter.{Ready, Scanned}
-use Rattle.walks.specs.Resume.{Placed}
+use Rattle.walks.specs.Enter.{Scanned}
 use Rattle.walks.specs.Follow.{FollowsAt}
 use Rattle.walks.specs.Root.{Root, Tabled}
 use Rattle.walks.proofs.Fill.{count-kept}
-
--- the read pattern of e
-pub read-root : (e : Re) → nodes e ≤ 1024 → size e ≤ limit → Root (read-pattern e .kind) (read-pattern e .arg) (nodes e - 1)
-read-root e h few =
-    let n = nodes-some e in
-    record { e = e; holds = read-pattern-holds e h; all = omega arith; within = omega arith; few = few }
 
 module _ {ks gs : List ℕ} {root : ℕ} (R : Root ks gs root) where
   pub root-held : Held ks gs root
@@ -44,10 +33,3 @@ module _ {ks gs : List ℕ} {root : ℕ} (R : Root ks gs root) where
     follow = λ e h j l q. F .filled e 0 0 h .right j (omega arith) (omega arith) .has-follows q ∙ rw (empty q) (follows-root e j q);
     ends = λ e h j. F .ended e 0 0 h j ∙ rw (empty j) (ends-root e j);
   }
-
-  -- what the walks of the last node ask
-  pub root-ready : (from : ℕ) → marks (R .e) ≤ mark-limit → from + 2 * mark-limit < 2 ^ 64 → Ready ks gs root from
-  root-ready from h room = record { e = R .e; m = 0; p = 0; holds = R .holds; within = R .within; few = omega arith; room = omega arith }
-
-  pub root-placed : (j from : ℕ) → j < size (R .e) → marks (R .e) ≤ mark-limit → from + 8 * mark-limit < 2 ^ 64 → Placed ks gs root j from
-  root-placed j from l h room = record { e = R .e; m = 0; p = 0; holds = R .holds; within = R .within; inside = (omega arith, omega arith); few = omega arith; room = omega arith }

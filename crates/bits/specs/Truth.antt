@@ -1,4 +1,4 @@
--- Truth values.
+-- Laws of truth values: what holds where `&&`, `||` and `cond` do, and when two are equal. Assumes nothing.
 use mathlib.Core.Path.{_≡_, refl, sym}
 use mathlib.Core.Bool.{Bool, true, false, _&&_, _||_, cond, true≢false, and-eq-true-iff}
 use mathlib.Core.Logic.{_⊎_, inl, inr}
