@@ -1,4 +1,4 @@
--- Every alternative of a pattern begins with a mark.
+-- Each side of every alternative of a pattern begins with a mark.
 use mathlib.Core.Bool.{Bool}
 use mathlib.Core.List.{List}
 use Prim.Native.Nat.{ℕ}
@@ -12,12 +12,12 @@ pub data Marked : Re → Type 0 where
   k-branch : {x : Re} → Marked (branch x)
   k-plus : {x : Re} → Marked (plus x)
 
--- the left side of every alternative in e is marked
+-- both sides of every alternative in e are marked
 pub data Fair : Re → Type 0 where
   f-eps : Fair eps
   f-pos : {c : ℕ → Bool} → Fair (pos c)
   f-cat : {x y : Re} → Fair x → Fair y → Fair (cat x y)
-  f-alt : {x y : Re} → Marked x → Fair x → Fair y → Fair (alt x y)
+  f-alt : {x y : Re} → Marked x → Marked y → Fair x → Fair y → Fair (alt x y)
   f-branch : {x : Re} → Fair x → Fair (branch x)
   f-star : {x : Re} → Fair x → Fair (star x)
   f-plus : {x : Re} → Fair x → Fair (plus x)
@@ -45,9 +45,9 @@ fair (optional a) = f-opt (fair a)
 fair (item-one i) = fair i
 fair (item-more b i) = f-cat (fair b) (fair i)
 fair (front-one b) = (k-branch, f-branch (fair b))
-fair (front-more f b) = let g = fair f in (k-alt (g .0) k-branch, f-alt (g .0) (g .1) (f-branch (fair b)))
+fair (front-more f b) = let g = fair f in (k-alt (g .0) k-branch, f-alt (g .0) k-branch (g .1) (f-branch (fair b)))
 fair (lone b) = fair b
-fair (several f b) = let g = fair f in f-alt (g .0) (g .1) (f-branch (fair b))
+fair (several f b) = let g = fair f in f-alt (g .0) k-branch (g .1) (f-branch (fair b))
 
 pub pattern-fair : {s : List ℕ} {e : Re} {d : ℕ} → Pattern s e d → Fair e
 pattern-fair p = fair p

@@ -140,7 +140,7 @@ unfolding enterRun leads nullable marks
 enter-best f-eps m p h g b e = only _ _ _ _ e-eps (ok-pass e) (λ σ o w. eps-way w)
 enter-best f-pos m p h g b e = only _ _ _ _ e-pos (ok-at (sym (or-false (g p)) ∙ e)) (λ σ o w. pos-way w)
 enter-best (f-cat {x = x} {y = y} f f′) m p h g b e = cat-best m p x y h (enter-best f m p (omega arith)) (enter-best f′ _ _ (omega arith)) g b e
-enter-best (f-alt {x = x} {y = y} k f f′) m p h g b e = alt-best m p x y h (enter-best f m p (omega arith)) (enter-best f′ _ _ (omega arith)) g b k e
+enter-best (f-alt {x = x} {y = y} k k′ f f′) m p h g b e = alt-best m p x y h (enter-best f m p (omega arith)) (enter-best f′ _ _ (omega arith)) g b k e
 enter-best (f-branch {x = x} f) m p h g b e = best-ways (λ ρ o w. enter-branch-to w) (λ ρ o w. enter-branch-of w) (opens-best m p x h (enter-best f (suc m) p (omega arith)) g b e)
 enter-best (f-star {x = x} f) m p h g b e = best-ways (λ ρ o w. enter-star-to w) (λ ρ o w. enter-star-of w) (loop-best m p x h (enter-best f (suc m) p (omega arith)) g b e)
 enter-best (f-plus {x = x} f) m p h g b e = best-ways (λ ρ o w. enter-plus-to w) (λ ρ o w. enter-plus-of w) (opens-best m p x h (enter-best f (suc m) p (omega arith)) g b e)

@@ -90,7 +90,7 @@ unfolding resumeRun marks
 resume-best f-eps m p h j g b s = absurd (no-eps (s .2))
 resume-best f-pos m p h j g b s = let k = pos-here (s .2) (s .3) in only _ _ _ _ (k .0) (ok-pass (k .1)) (λ σ o w. pos-one w)
 resume-best (f-cat {x = x} {y = y} f f′) m p h j g b s = cat-best m p x y h (resume-best f m p (omega arith)) (resume-best f′ _ _ (omega arith)) j g b (enter-best f′ _ _ (omega arith)) s
-resume-best (f-alt {x = x} {y = y} k f f′) m p h j g b s = alt-best m p x y h (resume-best f m p (omega arith)) (resume-best f′ _ _ (omega arith)) j g b s
+resume-best (f-alt {x = x} {y = y} k k′ f f′) m p h j g b s = alt-best m p x y h (resume-best f m p (omega arith)) (resume-best f′ _ _ (omega arith)) j g b s
 resume-best (f-branch {x = x} f) m p h j g b s = like (λ ρ o w. resume-branch-to w) (λ ρ o w. resume-branch-of w) (closes-best m p x h (resume-best f (suc m) p (omega arith)) j g b) s
 resume-best (f-star {x = x} f) m p h j g b s = like (λ ρ o w. resume-star-to w) (λ ρ o w. resume-star-of w) (repeats-best m p x h (resume-best f (suc m) p (omega arith)) j g b (enter-best f (suc m) p (omega arith))) s
 resume-best (f-plus {x = x} f) m p h j g b s = like (λ ρ o w. resume-plus-to w) (λ ρ o w. resume-plus-of w) (repeats-best m p x h (resume-best f (suc m) p (omega arith)) j g b (enter-best f (suc m) p (omega arith))) s
