@@ -1,11 +1,9 @@
 -- Links: the run from one position depends only on where it may end, so it can be kept and used again.
 use mathlib.Core.Path.{_≡_, refl, sym, _∙_}
-use mathlib.Core.Bool.{Bool, true, false}
+use mathlib.Core.Bool.{Bool, true, false, _&&_}
 use mathlib.Core.List.{List}
 use Prim.Native.Nat.{ℕ, _≤_}
 use native.Mathlib.Omega.{arith}
-use lib.Dec.{eqb}
-use borrow.Author.Tests.{eqb-true, eq-eqb}
 use Rattle.meaning.specs.Expression.{Re, marks}
 use Rattle.meaning.specs.Tree.{Before, b-here, b-longer, b-next}
 use Rattle.grammar.specs.Fair.{Fair}
@@ -16,7 +14,7 @@ use Rattle.positions.specs.ResumeBest.{resume-best}
 use Rattle.positions.specs.Runs.{Run, run, rowOf, outOf, otherOf, resumeRun}
 use Rattle.positions.specs.Sets.{follows, follows-full, follows-some}
 use Rattle.positions.specs.Tests.{Ok, ok-at, ok-pass}
-use Rattle.bits.specs.Truth.{alike}
+use Rattle.bits.specs.Truth.{alike, both}
 
 less-order : {m k : ℕ} {ρ ρ′ : List ℕ} {o : Out} → Less m k ρ ρ′ o → Before ρ ρ′
 less-order (l-here h) = b-here h
@@ -44,8 +42,7 @@ module _ {m k : ℕ} {R : List ℕ → Out → Type 0} {g g′ : ℕ → Bool} {
 run-of : (r : Run) → r ≡ run (rowOf r) (outOf r) (otherOf r)
 run-of (run ρ o w) = refl
 
-pub best-same : {m k : ℕ} {R : List ℕ → Out → Type 0} {g g′ : ℕ → Bool} {b b′ : Bool} (r r′ : Run) → Best m k R g b r → Best m k R g′ b′ r′
-    → ((ρ : List ℕ) (o : Out) → R ρ o → Ok g b o → Ok g′ b′ o) → ((ρ : List ℕ) (o : Out) → R ρ o → Ok g′ b′ o → Ok g b o) → r ≡ r′
+best-same : {m k : ℕ} {R : List ℕ → Out → Type 0} {g g′ : ℕ → Bool} {b b′ : Bool} (r r′ : Run) → Best m k R g b r → Best m k R g′ b′ r′ → Alike R g b g′ b′ → Alike R g′ b′ g b → r ≡ r′
 best-same r r′ B B′ to from =
     let e = row-out r r′ B B′ to from in
     let w : otherOf r ≡ otherOf r′ = alike _ _ (bit-to B B′ to (e .0)) (bit-to B′ B from (sym (e .0))) in
@@ -53,17 +50,17 @@ best-same r r′ B B′ to from =
     let c = e .1 in
     run-of r ∙ rw (a, c, w) (sym (run-of r′))
 
--- where the goal meets what follows j in q alone, the run goes to q as if q alone were the goal
-pub resume-link : {e : Re} → Fair e → marks e ≤ 127 → (j q : ℕ) (g : ℕ → Bool) → follows 0 e j q ≡ true → g q ≡ true → ((q′ : ℕ) → follows 0 e j q′ ≡ true → g q′ ≡ true → q′ ≡ q)
-    → resumeRun 0 0 e j g false ≡ resumeRun 0 0 e j (eqb q) false
-resume-link {e} f h j q g i k one =
-    let w = follows-some 0 0 e j q i .1 in
-    best-same _ _ (resume-best f 0 0 (omega arith) j g false (_, _, w, ok-at k)) (resume-best f 0 0 (omega arith) j (eqb q) false (_, _, w, ok-at (eq-eqb q q refl))) to from
+-- the run depends on those positions of the goal alone that may follow j
+pub resume-near : {e : Re} → Fair e → marks e ≤ 127 → (j q : ℕ) (g g′ : ℕ → Bool) → ((p : ℕ) → g′ p ≡ (follows 0 e j p && g p)) → g′ q ≡ true → resumeRun 0 0 e j g false ≡ resumeRun 0 0 e j g′ false
+resume-near {e} f h j q g g′ near y =
+    let z = both _ _ (sym (near q) ∙ y) in
+    let w = follows-some 0 0 e j q (z .0) .1 in
+    best-same _ _ (resume-best f 0 0 (omega arith) j g false (_, _, w, ok-at (z .1))) (resume-best f 0 0 (omega arith) j g′ false (_, _, w, ok-at y)) to from
   where
-    to : (ρ : List ℕ) (o : Out) → Resume 0 0 e j ρ o → Ok g false o → Ok (eqb q) false o
-    to ρ (at q′) x (ok-at z) = ok-at (eq-eqb q q′ (sym (one q′ (follows-full x) z)))
+    to : Alike (Resume 0 0 e j) g false g′ false
+    to ρ (at p) x (ok-at z) = ok-at (near p ∙ rw (follows-full x, z) refl)
     to ρ pass x (ok-pass z) = ok-pass z
 
-    from : (ρ : List ℕ) (o : Out) → Resume 0 0 e j ρ o → Ok (eqb q) false o → Ok g false o
-    from ρ (at q′) x (ok-at z) = ok-at (rw (eqb-true q q′ z) at k)
+    from : Alike (Resume 0 0 e j) g′ false g false
+    from ρ (at p) x (ok-at z) = ok-at (both (follows 0 e j p) (g p) (sym (near p) ∙ z) .1)
     from ρ pass x (ok-pass z) = ok-pass z

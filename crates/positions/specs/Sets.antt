@@ -7,7 +7,7 @@ use Prim.Native.Nat.{ℕ, _+_}
 use lib.Dec.{ltb, eqb}
 use borrow.Author.Tests.{eqb-true, eq-eqb}
 use Rattle.meaning.specs.Expression.{Re, eps, pos, cat, alt, branch, star, plus, opt, size}
-use Rattle.positions.specs.Places.{In, inside, source, placed, entered, resumed}
+use Rattle.positions.specs.Places.{In, source, placed}
 use Rattle.positions.specs.Positions.{at, Enter, Resume}
 use Rattle.positions.specs.Tests.{nullable, leads, reads, ends, reaches, reads-some, hits, leads-full, leads-some, ends-some, reaches-full, reaches-some}
 use Rattle.bits.specs.Truth.{alike}

@@ -15,7 +15,7 @@ use Rattle.positions.specs.Alive.{ended, alive, alive-in, alive-on, at-goal}
 use Rattle.positions.specs.EnterBest.{enter-best}
 use Rattle.positions.specs.Positions.{Out, pass, at}
 use Rattle.positions.specs.ResumeBest.{resume-best}
-use Rattle.positions.specs.Room.{spare}
+use Rattle.positions.specs.Room.{spare-most}
 use Rattle.positions.specs.RunWays.{enter-run-room, resume-run-room}
 use Rattle.positions.specs.Runs.{Run, run, rowOf, outOf, otherOf, put, enterRun, resumeRun, enter-run-same, resume-run-same}
 use Rattle.positions.specs.Tests.{Ok, ok-pass}
@@ -47,10 +47,6 @@ put-eta t (run ρ o w) = refl
 
 pub apart : {c c′ q : ℕ} {w w′ : Bool} → Passed c w ≡ Stopped q c′ w′ → ⊥
 apart e = let z : _≡_ {A = ℕ} 0 1 = cc in omega arith
-
-spare-most : (o : Out) (k : ℕ) → spare o k ≤ 4 * k
-spare-most pass k = omega arith
-spare-most (at q) k = omega arith
 
 -- a byte and its run, after a row
 chain-read : (ρ : List ℕ) (o : Out) (w : Bool) (c : ℕ) (R : Run) (T : Text)

@@ -12,14 +12,12 @@ use lib.ListN.{length, getD, set, take, replicate, length-set}
 use lib.Seq.{sets, length-sets, length-take-le, take-suc, take-length, set-out, getD-set-same, getD-set-other}
 use Rattle.meaning.specs.Expression.{Re, marks, size}
 use Rattle.grammar.specs.Fair.{Fair}
-use Rattle.positions.specs.Links.{best-same}
-use Rattle.positions.specs.Positions.{Out, pass, at, Resume}
-use Rattle.positions.specs.ResumeBest.{resume-best}
+use Rattle.positions.specs.Links.{resume-near}
+use Rattle.positions.specs.Positions.{Out, pass, at}
 use Rattle.positions.specs.Room.{spare-most}
 use Rattle.positions.specs.RunWays.{resume-run-room}
 use Rattle.positions.specs.Runs.{Run, run, rowOf, outOf, otherOf, resumeRun, resume-run-same}
-use Rattle.positions.specs.Sets.{follows, follows-full, follows-some}
-use Rattle.positions.specs.Tests.{Ok, ok-at, ok-pass}
+use Rattle.positions.specs.Sets.{follows}
 use Rattle.passes.proofs.Marked.{zeros-empty}
 use Rattle.sets.specs.declared.set.Set.{Set}
 use Rattle.sets.specs.Members.{has, row, Stored}
@@ -30,27 +28,6 @@ use Rattle.walks.specs.Steps.{stepOf, cursor, Wrote}
 use Rattle.walks.proofs.Written.{sets-append, wrote-cursor}
 use Rattle.tree.specs.Links.{flag, Link, LinkAt, four, Kept, Linked, Recalled, Keeps}
 use Rattle.tree.proofs.Along.{apart}
-
--- ---- the run depends on the positions of the goal that may follow
-
-both : (a b : Bool) → (a && b) ≡ true → (a ≡ true) × (b ≡ true)
-both true true e = (refl, refl)
-both true false e = absurd (false≢true e)
-both false b e = absurd (false≢true e)
-
-pub resume-near : {e : Re} → Fair e → marks e ≤ 127 → (j q : ℕ) (g g′ : ℕ → Bool) → ((p : ℕ) → g′ p ≡ (follows 0 e j p && g p)) → g′ q ≡ true → resumeRun 0 0 e j g false ≡ resumeRun 0 0 e j g′ false
-resume-near {e} f h j q g g′ near y =
-    let z = both _ _ (sym (near q) ∙ y) in
-    let w = follows-some 0 0 e j q (z .0) .1 in
-    best-same _ _ (resume-best f 0 0 (omega arith) j g false (_, _, w, ok-at (z .1))) (resume-best f 0 0 (omega arith) j g′ false (_, _, w, ok-at y)) to from
-  where
-    to : (ρ : List ℕ) (o : Out) → Resume 0 0 e j ρ o → Ok g false o → Ok g′ false o
-    to ρ (at p) x (ok-at z) = ok-at (near p ∙ rw (follows-full x, z) refl)
-    to ρ pass x (ok-pass z) = ok-pass z
-
-    from : (ρ : List ℕ) (o : Out) → Resume 0 0 e j ρ o → Ok g′ false o → Ok g false o
-    from ρ (at p) x (ok-at z) = ok-at (both (follows 0 e j p) (g p) (sym (near p) ∙ z) .1)
-    from ρ pass x (ok-pass z) = ok-pass z
 
 -- ---- a row that is written
 

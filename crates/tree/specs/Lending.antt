@@ -1,5 +1,4 @@
 -- How much to lend. Assumes nothing: these are definitions.
-use mathlib.Core.Path.{_≡_}
 use Prim.Native.Nat.{ℕ, _≤_, _<_}
 use Rattle.meaning.specs.Limits.{text-limit, mark-limit, cells-for, room-for}
 
