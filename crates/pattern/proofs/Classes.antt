@@ -4,19 +4,18 @@ use mathlib.Core.Bool.{Bool, false, _||_}
 use mathlib.Core.List.{List, [], _∷_}
 use Prim.Native.Nat.{ℕ, suc, _+_, _*_, _≤_, _<_}
 use native.Mathlib.Omega.{arith}
-use borrow.Author.Tests.{le-leb}
 use lib.ListN.{length, getD, set}
 use lib.Seq.{sets, set-out}
 use Rattle.sets.specs.declared.class.Class.{Class}
 use Rattle.sets.specs.Classes.{among, ClassFits}
 use Rattle.sets.proofs.ClassLaws.{class-word}
 use Rattle.meaning.specs.Expression.{pos}
-use Rattle.meaning.specs.Grammar.{any, range, either}
+use Rattle.meaning.specs.Grammar.{range, either}
 use Rattle.meaning.specs.ReadPattern.{word, words}
 use Rattle.grammar.specs.Contract.{Atom-done, Item-bad}
 use Rattle.grammar.specs.ClassContract.{Ranges-done, Class-bad, ranges-first, ranges-more, atom-class, atom-class-bad}
 use Rattle.pattern.specs.Stores.{Tests}
-use Rattle.pattern.specs.Letters.{On, Letter-to, Range-to, Class-read, Classed, Letter-read, Lettered, Ranged}
+use Rattle.pattern.specs.Letters.{On, Letter-to, Range-to, Class-read, Classed, Letter-read, Lettered, Tested}
 use Rattle.pattern.specs.declared.letters.Past.{Past}
 use Rattle.pattern.specs.declared.letters.Past.the-variants.{To, Not}
 use Rattle.pattern.specs.declared.letters.Taken.{Taken}
@@ -51,14 +50,8 @@ next-range {c = c} {d} k k′ h g w = record {
 pub no-letter : {s : List ℕ} {i p : ℕ} (t : Taken) → t .past ≡ Not p → Item-bad s i p → Lettered s i t
 no-letter t e h = rw e h
 
-pub range-letter : {s : List ℕ} {i j c d : ℕ} {t : Taken} → Ranged c d j t → Atom-done s i j (pos (range c d)) 0 → On (length s) i j → Lettered s i t
-range-letter {c = c} {d} r a o = rw (r .past) (record { test = range c d; done = a; says = r .says; on = o })
-
-full : (q : ℕ) → q < 256 → range 0 255 q ≡ any q
-full q l = rw (le-leb 0 q (omega arith), le-leb q 255 (omega arith))
-
-pub any-letter : {s : List ℕ} {i j : ℕ} {t : Taken} → Ranged 0 255 j t → Atom-done s i j (pos any) 0 → On (length s) i j → Lettered s i t
-any-letter r a o = rw (r .past) (record { test = any; done = a; says = λ q l. r .says q l ∙ full q l; on = o })
+pub test-letter : {s : List ℕ} {i j : ℕ} {f : ℕ → Bool} {t : Taken} → Tested f j t → Atom-done s i j (pos f) 0 → On (length s) i j → Lettered s i t
+test-letter {f = f} r a o = rw (r .past) (record { test = f; done = a; says = r .says; on = o })
 
 pub class-letter : (s : List ℕ) (i : ℕ) (t : Taken) → i < length s → getD s i 0 ≡ 91 → Classed s (i + 1) t → Lettered s i t
 class-letter s i t l e = go (t .class) (t .past)

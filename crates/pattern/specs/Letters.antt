@@ -60,10 +60,10 @@ Letter-read s i k (Not p) = Item-bad s i p
 abbrev pub Lettered : List ℕ → ℕ → Taken → Type 0
 Lettered s i t = Letter-read s i (t .class) (t .past)
 
--- no byte of the class but those from c to d
-pub record Ranged (c d next : ℕ) (t : Taken) : Type 0 where
+-- what was read ends before `next`, and the class holds the bytes of the test f
+pub record Tested (f : ℕ → Bool) (next : ℕ) (t : Taken) : Type 0 where
   pub past : t .past ≡ To next
-  pub says : Tests (t .class) (range c d)
+  pub says : Tests (t .class) f
 
 -- the answer to whether b, which is none of ( [ \ . , begins no atom
 abbrev pub Strayed : ℕ → Bool → Type 0

@@ -2,8 +2,9 @@
 ghost use mathlib.Core.Path.{_≡_};
 ghost use Prim.Native.Nat.{_+_, _<_, _≤_};
 ghost use lib.ListN.{length};
+ghost use Rattle.meaning.specs.Grammar.{any, range};
 ghost use Rattle.pattern.specs.Parts.{Byte-at};
-ghost use Rattle.pattern.specs.Letters.{Byted, Spanned, Ranged, Classed, Lettered, Strayed};
+ghost use Rattle.pattern.specs.Letters.{Byted, Spanned, Tested, Classed, Lettered, Strayed};
 ghost use Rattle.pattern.specs.declared.letters.Past.the-variants.{Not};
 use sets::class::Class;
 
@@ -99,9 +100,19 @@ fn refused(place: usize) -> Taken
     }
 }
 
+// Every byte.
+fn whole(next: usize) -> Taken
+    ensures { λ r. ⌜ Tested any next r ⌝ }
+{
+    Taken {
+        past: Past::To(next),
+        class: Class::all(),
+    }
+}
+
 // The bytes from c to d.
 fn ranged(c: u8, d: u8, next: usize) -> Taken
-    ensures { λ r. ⌜ Ranged c d next r ⌝ }
+    ensures { λ r. ⌜ Tested (range c d) next r ⌝ }
 {
     Taken {
         past: Past::To(next),
@@ -185,7 +196,7 @@ pub fn letter(p: &[u8], at: usize) -> Taken
         return refused(next);
     }
     if b == b'.' {
-        return ranged(0, 255, next);
+        return whole(next);
     }
     if stray(b) {
         return refused(at);

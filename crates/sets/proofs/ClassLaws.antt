@@ -1,13 +1,11 @@
 -- What a caller's proof may want of classes beside the contracts. Assumes nothing.
 use mathlib.Core.Path.{_≡_, refl, sym, ap, _∙_}
-use mathlib.Core.Bool.{Bool, true, false, true≢false}
+use mathlib.Core.Bool.{Bool}
 use mathlib.Core.List.{List}
-use Prim.Native.Nat.{ℕ, _+_, _*_, _/_, _%_, _≤_, _<_}
+use Prim.Native.Nat.{ℕ, _+_, _*_, _/_, _%_, _<_}
 use native.Mathlib.Omega.{arith}
 use borrow.Author.Needs.{needs}
-use borrow.Author.Tests.{ltb-true, ltb-false}
-use lib.Dec.{ltb}
-use lib.ListN.{length, getD, List·getD-eq-default}
+use lib.ListN.{getD}
 use lib.Seq.{ext-getD}
 use mir.Syntax.{w64}
 use mir.Val.{Val, Fits}
@@ -17,21 +15,11 @@ use Rattle.meaning.specs.ReadPattern.{binary}
 use Rattle.sets.specs.declared.class.Class.{Class}
 use Rattle.sets.specs.Classes.{among, ClassFits}
 use Rattle.sets.proofs.class.Class.{the-row}
-use Rattle.bits.proofs.Bits.{bit-none, bit-number, bit-binary}
+use Rattle.bits.proofs.Bits.{bit-number, bit-binary}
 
 -- a parameter's `c .good` has the premise at its place, as `c .good .0`, and a call's result has it as `c .f .ok`
 pub class-fits : {k : Class} {vs : List Val} → Is the-row k vs → ClassFits k
 class-fits {k} {vs} h = record { four = search needs; fits = λ i. let f : Fits w64 (getD (k .words) i 0) = search needs in f .fits }
-
-pub among-lt : {k : Class} → ClassFits k → (q : ℕ) → among k q ≡ true → q < 256
-unfolding among
-among-lt {k} h q e = go (ltb q 256) refl
-  where
-    go : (t : Bool) → ltb q 256 ≡ t → q < 256
-    go true l = ltb-true q 256 l
-    go false l =
-        let past : length (k .words) ≤ q / 64 = omega (arith, h .four, ltb-false q 256 l) in
-        absurd (true≢false (sym e ∙ ap (λ (x : ℕ). bit 64 x (q % 64)) (List·getD-eq-default (k .words) 0 past) ∙ bit-none 64 (q % 64)))
 
 -- the words of a class that holds what f holds of
 pub class-word : (k : Class) (f : ℕ → Bool) → ClassFits k → ((q : ℕ) → q < 256 → among k q ≡ f q)

@@ -1,7 +1,6 @@
 -- What a caller's proof may want of sets beside the contracts. Assumes nothing.
 use mathlib.Core.Path.{_≡_, refl, sym, ap, ap₂, _∙_}
-use mathlib.Core.Bool.{Bool, true, false, _&&_, _||_, not, or-true}
-use mathlib.Core.Logic.{_⊎_, inl, inr, ⊎-elim}
+use mathlib.Core.Bool.{Bool, true, false, _&&_, not}
 use mathlib.Core.List.{List}
 use Prim.Native.Nat.{ℕ, _≤_, _<_}
 use native.Mathlib.Omega.{arith}
@@ -14,7 +13,7 @@ use borrow.Author.Tests.{ne-eqb, not-true, not-false}
 use Rattle.sets.specs.declared.set.Set.{Set}
 use Rattle.sets.specs.Members.{has, limit, size, vacant, meets, Least, SetFits, row}
 use Rattle.sets.proofs.set.Set.{the-row}
-use Rattle.bits.specs.Truth.{alike, both, and-both, either}
+use Rattle.bits.specs.Truth.{both, and-both}
 use Rattle.bits.proofs.Bits.{bit-lt, bit-same}
 use Rattle.bits.proofs.Tallies.{any-at, any-none, any-some, tally-less}
 
@@ -41,13 +40,6 @@ module _ (s : Set) where
   unfolding vacant
   vacant-some e = let w = any-some (has s) limit (not-false _ e) in (w .0, w .2)
 
-  pub member-or-none : ((q : ℕ) × (has s q ≡ true)) ⊎ ((q : ℕ) → has s q ≡ false)
-  member-or-none = go (vacant s) refl
-    where
-      go : (t : Bool) → vacant s ≡ t → ((q : ℕ) × (has s q ≡ true)) ⊎ ((q : ℕ) → has s q ≡ false)
-      go true e = inr (vacant-none e)
-      go false e = inl (vacant-some e)
-
   -- where the least member is the limit there is none
   pub least-none : (r : ℕ) → Least s r → limit ≤ r → (q : ℕ) → has s q ≡ false
   least-none r l h = none (λ q k. l .below q (omega arith))
@@ -65,24 +57,6 @@ module _ (s t : Set) where
       let w = any-some (λ q. has s q && has t q) limit e in
       let b = both (has s (w .0)) (has t (w .0)) (w .2) in
       (w .0, b .0, b .1)
-
--- what a union meets
-pub meets-union : (a b u t : Set) → ((q : ℕ) → has u q ≡ (has a q || has b q)) → meets u t ≡ (meets a t || meets b t)
-meets-union a b u t joined = alike _ _ there back
-  where
-    there : meets u t ≡ true → (meets a t || meets b t) ≡ true
-    there e =
-        let w = meets-some u t e in
-        ⊎-elim (λ h. ap (λ (x : Bool). x || meets b t) (meets-at a t (w .0) h (w .2)))
-        (λ h. ap (λ (x : Bool). meets a t || x) (meets-at b t (w .0) h (w .2)) ∙ or-true (meets a t))
-        (either (has a (w .0)) (has b (w .0)) (sym (joined (w .0)) ∙ w .1))
-
-    back : (meets a t || meets b t) ≡ true → meets u t ≡ true
-    back e =
-        ⊎-elim
-        (λ h. let w = meets-some a t h in meets-at u t (w .0) (joined (w .0) ∙ ap (λ (x : Bool). x || has b (w .0)) (w .1)) (w .2))
-        (λ h. let w = meets-some b t h in meets-at u t (w .0) (joined (w .0) ∙ ap (λ (x : Bool). has a (w .0) || x) (w .1) ∙ or-true (has a (w .0))) (w .2))
-        (either (meets a t) (meets b t) e)
 
 -- ---- r is s without p: a loop over the members has `size` as its measure
 

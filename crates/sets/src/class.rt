@@ -1,7 +1,7 @@
 // A class: a set of bytes, in four words.
 ghost use mathlib.Core.Path.{_≡_};
-ghost use mathlib.Core.Bool.{false, _&&_, _||_};
-ghost use Prim.Native.Nat.{ℕ};
+ghost use mathlib.Core.Bool.{true, false, _&&_, _||_};
+ghost use Prim.Native.Nat.{ℕ, _<_};
 ghost use lib.Dec.{eqb, leb};
 ghost use Rattle.sets.specs.Classes.{among};
 
@@ -16,6 +16,15 @@ impl Class {
         ensures { λ r. ⌜ ((q : ℕ) → among r q ≡ false) ⌝ }
     {
         Class { words: [0; 4] }
+    }
+
+    // The class with every byte.
+    pub fn all() -> Class
+        ensures { λ r. ⌜ ((q : ℕ) → q < 256 → among r q ≡ true) ⌝ }
+    {
+        Class {
+            words: [u64::MAX; 4],
+        }
     }
 
     // Is b in the class?

@@ -2,7 +2,7 @@
 use borrow.Author.Needs.{needs}
 use native.Mathlib.Omega.{arith}
 use Rattle.grammar.specs.Contract.{atom-plain, atom-dot, atom-escaped, atom-cut, atom-stray, atom-end}
-use Rattle.pattern.proofs.Classes.{no-letter, range-letter, any-letter, class-letter}
+use Rattle.pattern.proofs.Classes.{no-letter, test-letter, class-letter}
 use Rattle.pattern.proofs.letters.letter.Statement.{statement}
 use Rattle.pattern.proofs.letters.letter.Tie as tie
 
@@ -34,7 +34,7 @@ ranged-requires : tie.Need-ranged-requires
 ranged-requires c κs = search needs
 
 returns-3 : tie.Need-returns-3
-returns-3 c = range-letter (c .ranged .ensures) (atom-escaped _ _ (c .before .before .before .before .before .before .if1 .left) (c .before .before .before .if3 .taken) (c .before .before .if4 .taken)) (omega (arith, c .before .before .if4 .taken))
+returns-3 c = test-letter (c .ranged .ensures) (atom-escaped _ _ (c .before .before .before .before .before .before .if1 .left) (c .before .before .before .if3 .taken) (c .before .before .if4 .taken)) (omega (arith, c .before .before .if4 .taken))
 
 refused-requires-2 : tie.Need-refused-requires-2
 refused-requires-2 c κs = search needs
@@ -42,11 +42,11 @@ refused-requires-2 c κs = search needs
 returns-4 : tie.Need-returns-4
 returns-4 c = no-letter _ (c .refused2 .ensures) (atom-cut _ _ (c .before .before .before .before .before .if1 .left) (c .before .before .if3 .taken) (omega (arith, c .before .if4 .left, c .before .before .before .before .before .if1 .left)))
 
-ranged-requires-2 : tie.Need-ranged-requires-2
-ranged-requires-2 c κs = search needs
+whole-requires : tie.Need-whole-requires
+whole-requires c κs = search needs
 
 returns-5 : tie.Need-returns-5
-returns-5 c = any-letter (c .ranged2 .ensures) (atom-dot _ _ (c .before .before .before .before .before .if1 .left) (c .before .if5 .taken)) (omega (arith, c .before .before .before .before .before .if1 .left))
+returns-5 c = test-letter (c .whole .ensures) (atom-dot _ _ (c .before .before .before .before .before .if1 .left) (c .before .if5 .taken)) (omega (arith, c .before .before .before .before .before .if1 .left))
 
 stray-requires : tie.Need-stray-requires
 stray-requires c κs = search needs
@@ -57,11 +57,11 @@ refused-requires-3 c κs = search needs
 returns-6 : tie.Need-returns-6
 returns-6 c = no-letter _ (c .refused3 .ensures) (atom-stray _ _ (c .before .before .before .before .before .before .before .if1 .left) (rw (c .before .if6 .taken) at (c .before .before .stray .ensures)))
 
-ranged-requires-3 : tie.Need-ranged-requires-3
-ranged-requires-3 c κs = search needs
+ranged-requires-2 : tie.Need-ranged-requires-2
+ranged-requires-2 c κs = search needs
 
 returns-7 : tie.Need-returns-7
-returns-7 c = range-letter (c .ranged3 .ensures) (atom-plain _ _ (c .before .before .before .before .before .before .before .if1 .left) (rw (c .before .if6 .left) at (c .before .before .stray .ensures) (λ e. c .before .before .before .before .before .before .before .before .before .pre .1 (record { inside = c .before .before .before .before .before .before .before .if1 .left; is = e })) (c .before .before .before .before .before .if2 .left) (c .before .before .before .before .if3 .left) (c .before .before .before .if5 .left))) (omega (arith, c .before .before .before .before .before .before .before .if1 .left))
+returns-7 c = test-letter (c .ranged2 .ensures) (atom-plain _ _ (c .before .before .before .before .before .before .before .if1 .left) (rw (c .before .if6 .left) at (c .before .before .stray .ensures) (λ e. c .before .before .before .before .before .before .before .before .before .pre .1 (record { inside = c .before .before .before .before .before .before .before .if1 .left; is = e })) (c .before .before .before .before .before .if2 .left) (c .before .before .before .before .if3 .left) (c .before .before .before .if5 .left))) (omega (arith, c .before .before .before .before .before .before .before .if1 .left))
 
 pub letter-spec : {M : Type 1} → statement M
 letter-spec =
@@ -79,10 +79,10 @@ letter-spec =
     returns-3
     refused-requires-2
     returns-4
-    ranged-requires-2
+    whole-requires
     returns-5
     stray-requires
     refused-requires-3
     returns-6
-    ranged-requires-3
+    ranged-requires-2
     returns-7)
