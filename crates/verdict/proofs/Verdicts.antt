@@ -1,4 +1,4 @@
--- The search's answer, with cells for the longest text, is the scheduler's verdict. Assumes nothing.
+-- The search's answer, with cells that suffice, is the scheduler's verdict. Assumes nothing.
 use mathlib.Core.Path.{_≡_, refl}
 use mathlib.Core.Bool.{Bool, true, false, cond}
 use mathlib.Core.List.{List}
@@ -13,7 +13,7 @@ use Rattle.meaning.specs.Promise.{Refused, not-a-pattern, nested, positions, ov
 use Rattle.tree.specs.declared.search.Found.{Found}
 use Rattle.tree.specs.declared.search.Found.the-variants.{LongPattern, LongText, FewCells, NoPattern, TooDeep, ManyPositions, ManyMarks, NoTree}
 use Rattle.tree.specs.Search.{Searched, Sought, no-tree, a-tree, number-of, value-of, flag-of}
-use Rattle.verdict.specs.Scheduled.{scheduled}
+use Rattle.verdict.specs.Scheduled.{Suffice, scheduled}
 
 -- of the search's number and flag
 abbrev number : ℕ → ℕ → ℕ
@@ -48,13 +48,13 @@ sought-trees : {e : Re} {text room room′ : List ℕ} {n v f : ℕ} → Sought 
 sought-trees (no-tree x l) = none x
 sought-trees (a-tree t f) = flagged t f
 
-searched-verdict : {pat text cells room cells′ room′ : List ℕ} {n v f : ℕ} → length cells ≡ 4097 → Searched pat text cells room n v f cells′ room′ → Verdict pat text (number n f)
+searched-verdict : {pat text cells room cells′ room′ : List ℕ} {n v f : ℕ} → Suffice text cells → Searched pat text cells room n v f cells′ room′ → Verdict pat text (number n f)
 searched-verdict c (Searched.long-pattern h) = Verdict.long-pattern h
 searched-verdict c (Searched.long-text h l) = Verdict.long-text h l
-searched-verdict c (Searched.few-cells h l k) = absurd (omega arith)
+searched-verdict c (Searched.few-cells h l k) = absurd (omega (arith, c l))
 searched-verdict c (Searched.refused g r) = refused-verdict (g .short-pattern) (g .short-text) r
 searched-verdict c (Searched.sought g a s) = Verdict.judged (g .short-text) a (sought-trees s)
 
-pub found-verdict : {pat text cells room cells′ room′ : List ℕ} {r : ℕ} (x : Found) → r ≡ scheduled x → length cells ≡ 4097
+pub found-verdict : {pat text cells room cells′ room′ : List ℕ} {r : ℕ} (x : Found) → r ≡ scheduled x → Suffice text cells
     → Searched pat text cells room (number-of x) (value-of x) (flag-of x) cells′ room′ → Verdict pat text r
 found-verdict x e c s = rw (e, ← scheduled-number x) (searched-verdict c s)
