@@ -2,6 +2,8 @@
 pub mod Visits
 pub mod Words
 pub mod Upto
+pub mod Preceding
+pub mod Memos
 pub mod Rests
 pub mod Reach
 pub mod Marked

@@ -1,6 +1,6 @@
 -- A loop that takes the members out of a set one by one. Assumes nothing.
 use mathlib.Core.Path.{_≡_, refl, sym, ap, _∙_}
-use mathlib.Core.Bool.{Bool, true, false, _&&_, _||_, not, and-true, and-false, or-false, or-true, true≢false}
+use mathlib.Core.Bool.{Bool, true, false, _&&_, _||_, not, and-true, or-false, or-true, true≢false}
 use mathlib.Core.List.{List}
 use mathlib.Core.Logic.{⊎-elim}
 use Prim.Native.Nat.{ℕ, _≤_}
@@ -10,7 +10,7 @@ use Rattle.bits.specs.Tally.{any}
 use Rattle.bits.specs.Truth.{alike, both, and-both, either}
 use Rattle.bits.proofs.Tallies.{any-at, any-some}
 use Rattle.sets.specs.declared.set.Set.{Set}
-use Rattle.sets.specs.Members.{has, limit, row, Least}
+use Rattle.sets.specs.Members.{has, limit, row, Least, Stored}
 use Rattle.sets.proofs.SetLaws.{has-lt, least-none, without-was, without-stays}
 use Rattle.passes.specs.Ways.{joined}
 
@@ -28,12 +28,16 @@ at-member P q k = go (eqb k q) refl
     go true e = ap P (eqb-true k q e)
     go false e = refl
 
--- q joined where r, or nothing did
-pub gained : (f u g : Set) (q : ℕ) (r : Bool) → g ≡ u → ((k : ℕ) → has u k ≡ (has f k || eqb k q)) → r ≡ true → (k : ℕ) → has g k ≡ (has f k || (eqb k q && r))
-gained f u g q r i e t k = rw (i, e k, t, and-true (eqb k q))
-
-pub kept : (f g : Set) (q : ℕ) (r : Bool) → g ≡ f → r ≡ false → (k : ℕ) → has g k ≡ (has f k || (eqb k q && r))
-kept f g q r i t k = rw (i, t, and-false (eqb k q), or-false (has f k))
+-- position k joined row r of a table
+pub row-joined : (r k : ℕ) (s u : Set) (l m : List ℕ) → s ≡ row l r → ((q : ℕ) → has u q ≡ (has s q || eqb q k)) → Stored u r l m
+    → (p q : ℕ) → has (row m p) q ≡ (has (row l p) q || (eqb p r && eqb q k))
+row-joined r k s u l m i e S p q = go (eqb p r) refl
+  where
+    go : (t : Bool) → eqb p r ≡ t → has (row m p) q ≡ (has (row l p) q || (t && eqb q k))
+    go true j =
+        let h : p ≡ r = eqb-true p r j in
+        ap (λ (n : ℕ). has (row m n) q) h ∙ ap (λ (v : Set). has v q) (S .here) ∙ e q ∙ ap (λ (v : Set). has v q || eqb q k) (i ∙ ap (row l) (sym h))
+    go false j = ap (λ (v : Set). has v q) (S .other p (eqb-false p r j)) ∙ sym (or-false (has (row l p) q))
 
 -- `rest` is `left` without its member q
 module _ (left rest : Set) (q : ℕ) (here : has left q ≡ true) (less : (k : ℕ) → has rest k ≡ (has left k && not (eqb k q))) where
@@ -74,12 +78,15 @@ module _ (left rest : Set) (q : ℕ) (here : has left q ≡ true) (less : (k : �
 pub found-all : (left : Set) (q : ℕ) → Least left q → limit ≤ q → (P f : ℕ → Bool) (k : ℕ) → f k ≡ (f k || (has left k && P k))
 found-all left q l h P f k = rw (least-none left q l h k) (sym (or-false (f k)))
 
-pub joined-none : (left : Set) (q : ℕ) → Least left q → limit ≤ q → (follow : List ℕ) (k : ℕ) → joined follow (has left) k ≡ false
-unfolding joined
-joined-none left q l h follow k = go (any (λ p. has left p && has (row follow p) k) limit) refl
+-- where a test holds of none, it holds of none below n
+pub none-any : (f : ℕ → Bool) (n : ℕ) → ((q : ℕ) → f q ≡ false) → any f n ≡ false
+none-any f n e = go (any f n) refl
   where
-    go : (t : Bool) → any (λ p. has left p && has (row follow p) k) limit ≡ t → t ≡ false
-    go true e =
-        let w = any-some (λ p. has left p && has (row follow p) k) limit e in
-        absurd (true≢false (sym (both (has left (w .0)) (has (row follow (w .0)) k) (w .2) .0) ∙ least-none left q l h (w .0)))
-    go false e = refl
+    go : (t : Bool) → any f n ≡ t → t ≡ false
+    go true i = let w = any-some f n i in absurd (true≢false (sym (w .2) ∙ e (w .0)))
+    go false i = refl
+
+-- no member, nothing joined
+pub joined-none : (s : Set) → ((q : ℕ) → has s q ≡ false) → (follow : List ℕ) (k : ℕ) → joined follow (has s) k ≡ false
+unfolding joined
+joined-none s e follow k = none-any (λ p. has s p && has (row follow p) k) limit (λ p. ap (λ (t : Bool). t && has (row follow p) k) (e p))

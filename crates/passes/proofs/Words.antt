@@ -1,20 +1,20 @@
 -- A loop that takes the digits out of a word one by one. Assumes nothing.
 use mathlib.Core.Path.{_≡_, refl, sym, ap, ap₂, _∙_}
-use mathlib.Core.Bool.{Bool, true, false, _&&_, _||_, not, and-false, or-false}
+use mathlib.Core.Bool.{Bool, true, false, _&&_, _||_, not, and-false}
 use mathlib.Core.List.{List}
 use Prim.Native.Nat.{ℕ, _+_, _*_, _-_, _/_, _%_, _^_, _<_}
 use native.Mathlib.Omega.{arith}
 use lib.Bits.{bitAnd, and-le-r}
 use lib.Count.{trailingZeros}
 use lib.Dec.{eqb, ltb}
-use borrow.Author.Tests.{eqb-true, eqb-false, eq-eqb, ltb-true, ltb-false}
+use borrow.Author.Tests.{eqb-true, eq-eqb, ltb-true, ltb-false}
 use Rattle.bits.specs.Bit.{bit}
 use Rattle.bits.proofs.Bits.{bit-none, bit-before, bit-first, bit-drop, bit-same}
 use Rattle.bits.specs.Truth.{alike, and-both}
 use Rattle.sets.specs.declared.set.Set.{Set}
 use Rattle.sets.specs.Members.{has, row, Stored}
 use Rattle.passes.specs.Masks.{in-word}
-use Rattle.passes.proofs.Visits.{moved}
+use Rattle.passes.proofs.Visits.{moved, row-joined}
 
 -- a word that is not zero has a lowest digit
 pub lowest-lt : (x : ℕ) → 0 < x → x < 2 ^ 64 → trailingZeros 64 x < 64
@@ -64,10 +64,5 @@ module _ (x w : ℕ) (z : 0 < x) (f : x < 2 ^ 64) where
   pub noted-more : (k : ℕ) (s u : Set) (l m : List ℕ) → s ≡ row l (64 * w + low) → ((q : ℕ) → has u q ≡ (has s q || eqb q k)) → Stored u (64 * w + low) l m
       → (b q : ℕ) → (has (row m b) q || (in-word (bitAnd x (x - 1)) w b && eqb q k)) ≡ (has (row l b) q || (in-word x w b && eqb q k))
   noted-more k s u l m i e S b q =
-      ap₂ (λ (f l : Bool). f || (l && eqb q k)) (joins (eqb b (64 * w + low)) refl) (low-out b) ∙ moved (eqb b (64 * w + low)) (has (row l b) q) (in-word x w b) (eqb q k) (low-in b)
-    where
-      joins : (t : Bool) → eqb b (64 * w + low) ≡ t → has (row m b) q ≡ (has (row l b) q || (t && eqb q k))
-      joins true j =
-          let h : b ≡ 64 * w + low = eqb-true _ _ j in
-          ap (λ (n : ℕ). has (row m n) q) h ∙ ap (λ (v : Set). has v q) (S .here) ∙ e q ∙ ap (λ (v : Set). has v q || eqb q k) (i ∙ ap (row l) (sym h))
-      joins false j = ap (λ (v : Set). has v q) (S .other b (eqb-false _ _ j)) ∙ sym (or-false (has (row l b) q))
+      ap₂ (λ (f l : Bool). f || (l && eqb q k)) (row-joined (64 * w + low) k s u l m i e S b q) (low-out b)
+      ∙ moved (eqb b (64 * w + low)) (has (row l b) q) (in-word x w b) (eqb q k) (low-in b)

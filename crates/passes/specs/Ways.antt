@@ -1,18 +1,19 @@
--- What the passes over a text compute from two tables of sets: row b of `mask` has the positions that read byte b, row q of `follow` those
--- that may come after q. Assumes nothing: these are definitions.
+-- What the passes over a text compute from tables of sets: row b of `mask` has the positions that read byte b, row q of `follow` those that
+-- may come after q, row q of `pre` those that may come before q. Assumes nothing: these are definitions.
 use mathlib.Core.Path.{_≡_}
 use mathlib.Core.Bool.{Bool, false, _&&_, _||_, cond}
 use mathlib.Core.List.{List, [], _∷_}
 use Prim.Native.Nat.{ℕ, suc, _≤_, _<_}
+use lib.Dec.{eqb, ltb}
 use lib.ListN.{length, drop}
 use Rattle.bits.specs.Tally.{any}
 use Rattle.sets.specs.declared.set.Set.{Set}
 use Rattle.sets.specs.Members.{has, limit, row, rows}
 use Rattle.positions.specs.Alive.{ended}
 
--- q may come after a position of s
+-- q is in the row of a position of s: by `follow` it may come after one, by `pre` before one
 unfoldable pub joined : List ℕ → (ℕ → Bool) → ℕ → Bool
-joined follow s q = any (λ p. s p && has (row follow p) q) limit
+joined table s q = any (λ p. s p && has (row table p) q) limit
 
 -- a position of g may come after q, or, if b, the end
 unfoldable pub onward : List ℕ → Set → ℕ → (ℕ → Bool) → Bool → Bool
@@ -37,3 +38,30 @@ readers mask g c q = g q && has (row mask c) q
 unfoldable pub readable : List ℕ → List ℕ → (ℕ → Bool) → List ℕ → ℕ
 readable mask follow g [] = 0
 readable mask follow g (c ∷ s) = cond (any (readers mask g c) limit) (suc (readable mask follow (joined follow (readers mask g c)) s)) 0
+
+-- ---- steps back
+
+-- position k joined the row of each member of s
+pub record Listed (s : Set) (k : ℕ) (l m : List ℕ) : Type 0 where
+  pub same-rows : rows m ≡ rows l
+  pub joins : (p q : ℕ) → has (row m p) q ≡ (has (row l p) q || (has s p && eqb q k))
+
+-- each position below n joined the rows of those that may come after it
+pub record Reversed (follow : List ℕ) (n : ℕ) (l m : List ℕ) : Type 0 where
+  pub same-rows : rows m ≡ rows l
+  pub joins : (p q : ℕ) → has (row m p) q ≡ (has (row l p) q || (ltb q n && has (row follow q) p))
+
+-- the positions that read byte b and may come before a position of s
+abbrev pub leading : List ℕ → List ℕ → ℕ → (ℕ → Bool) → ℕ → Bool
+leading mask pre b s q = has (row mask b) q && joined pre s q
+
+-- for each byte, row b of `sets` has those that lead to the set in row b of `keys`
+pub record Memo (mask pre keys sets : List ℕ) : Type 0 where
+  pub key-rows : 256 ≤ rows keys
+  pub set-rows : 256 ≤ rows sets
+  pub known : (b q : ℕ) → has (row sets b) q ≡ leading mask pre b (has (row keys b)) q
+
+-- r has those that lead to s over byte b, and the tables stay right
+pub record Recalled (mask pre : List ℕ) (b : ℕ) (s r : Set) (keys sets : List ℕ) : Type 0 where
+  pub found : (q : ℕ) → has r q ≡ leading mask pre b (has s) q
+  pub memo : Memo mask pre keys sets

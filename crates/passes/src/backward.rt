@@ -1,24 +1,41 @@
 // From the end of the text backwards: which positions can read the next byte and finish.
 ghost use mathlib.Core.Path.{_≡_};
-ghost use mathlib.Core.Bool.{_&&_};
 ghost use Prim.Native.Nat.{ℕ, _≤_, _<_};
 ghost use lib.ListN.{length};
-ghost use Rattle.sets.specs.Members.{has, limit, row, rows};
-ghost use Rattle.passes.specs.Ways.{onward, Backed};
-use crate::steps::before;
+ghost use Rattle.sets.specs.Members.{has, limit, rows};
+ghost use Rattle.passes.specs.Ways.{leading, Memo, Recalled, Backed};
+use crate::reverse::reverse;
+use crate::steps::after;
 use sets::set::Set;
 
-// The positions that read b and from which there is a way to a member of next or, if last, to the end.
-fn back(mask: &[u64], follow: &[u64], ends: Set, b: u8, next: Set, last: bool) -> Set
-    requires { ⌜ (256 ≤ rows (now mask)) × (limit ≤ rows (now follow)) ⌝ }
-    ensures { λ r. ⌜ ((q : ℕ) → has r q ≡ (has (row (now (mask .entry)) b) q && onward (now (follow .entry)) ends q (has next) last)) ⌝ }
+// The positions that read b and may come before a member of next.
+fn back(mask: &[u64], pre: &[u64], b: usize, next: Set) -> Set
+    requires { ⌜ (b < rows (now mask)) × (limit ≤ rows (now pre)) ⌝ }
+    ensures { λ r. ⌜ ((q : ℕ) → has r q ≡ leading (now (mask .entry)) (now (pre .entry)) b (has next) q) ⌝ }
 {
-    let reading = Set::load(mask, b as usize);
-    let on = before(follow, reading, next);
-    if last {
-        return on.union(reading.meet(ends));
+    Set::load(mask, b).meet(after(pre, next))
+}
+
+// The same. For each byte `sets` keeps what was found last, and `keys` from which set.
+fn recall(
+    mask: &[u64],
+    pre: &[u64],
+    keys: &mut [u64; 256],
+    sets: &mut [u64; 256],
+    b: u8,
+    next: Set,
+) -> Set
+    requires { ⌜ (256 ≤ rows (now mask)) × (limit ≤ rows (now pre)) × Memo (now mask) (now pre) (now keys) (now sets) ⌝ }
+    ensures { λ r. ⌜ Recalled (now (mask .entry)) (now (pre .entry)) b next r (now (keys .exit)) (now (sets .exit)) ⌝ }
+{
+    let row = b as usize;
+    if Set::load(keys, row).same(next) {
+        return Set::load(sets, row);
     }
-    on
+    let found = back(mask, pre, row, next);
+    next.store(keys, row);
+    found.store(sets, row);
+    found
 }
 
 // Cell i becomes the set of those for the text from byte i on; the last cell, after the text, becomes empty.
@@ -27,14 +44,21 @@ pub fn backward(text: &[u8], mask: &[u64], follow: &[u64], ends: Set, cells: &mu
     ensures { λ _. ⌜ Backed (now (mask .entry)) (now (follow .entry)) ends (now (text .entry)) (now (cells .entry)) (now (cells .exit)) ⌝ }
 {
     let n = text.len();
-    let mut next = Set::empty();
-    next.store(cells, n);
-    let mut last = true;
-    let mut i = n;
+    Set::empty().store(cells, n);
+    if n == 0 {
+        return;
+    }
+    let mut pre = [0u64; 64];
+    reverse(follow, &mut pre);
+    let mut keys = [0u64; 256];
+    let mut sets = [0u64; 256];
+    let mut i = n - 1;
+    let reading = Set::load(mask, text[i] as usize);
+    let mut next = reading.meet(ends);
+    next.store(cells, i);
     while i > 0 {
         i -= 1;
-        next = back(mask, follow, ends, text[i], next, last);
+        next = recall(mask, &pre, &mut keys, &mut sets, text[i], next);
         next.store(cells, i);
-        last = false;
     }
 }

@@ -3,4 +3,5 @@ pub mod backward;
 pub mod cells;
 pub mod masks;
 pub mod place;
+pub mod reverse;
 pub mod steps;

@@ -1,16 +1,26 @@
--- `passes::backward::backward` meets its contract. The loop's invariant: the cells from i on are done. Assumes nothing.
-use mathlib.Core.Path.{_∙_}
+-- `passes::backward::backward` meets its contract. The loop's invariant: the cells from i on are done, whatever positions may be the last,
+-- and the memo is right. Assumes nothing.
+use mathlib.Core.Path.{_≡_, refl, _∙_}
+use mathlib.Core.List.{List}
+use Prim.Native.Nat.{ℕ, _-_, _<_}
 use native.Mathlib.Omega.{arith}
+use lib.ListN.{length}
+use Rattle.sets.specs.declared.set.Set.{Set}
 use Rattle.sets.specs.Members.{rows}
-use Rattle.passes.proofs.Rests.{Going, going-none, going-more, going-all}
+use Rattle.passes.specs.Ways.{Memo}
+use Rattle.passes.proofs.Marked.{zeros-empty}
+use Rattle.passes.proofs.Memos.{memo-none}
+use Rattle.passes.proofs.Rests.{Going, going-none, going-last, going-more, going-all, made-more}
 use Rattle.passes.proofs.backward.backward.Statement.{statement}
 use Rattle.passes.proofs.backward.backward.Tie as tie
 
 abbrev Inv-loop : tie.InvT-loop
-Inv-loop text mask follow ends cells₀ n next₀ last₀ i₀ cells next last i = Going mask follow ends text cells₀ cells next last i
+Inv-loop text mask follow cells₀ n pre keys₀ sets₀ i₀ next₀ cells keys sets i next =
+    (i < length text) × (rows cells ≡ rows cells₀) × Memo mask pre keys sets
+    × ((ends : Set) (l : List ℕ) → Going mask follow ends text l cells₀ next₀ i₀ → Going mask follow ends text l cells next i)
 
 abbrev μ-loop : tie.MeasureT-loop
-μ-loop text mask follow ends cells₀ n next₀ last₀ i₀ cells next last i = i
+μ-loop text mask follow cells₀ n pre keys₀ sets₀ i₀ next₀ cells keys sets i next = i
 
 empty-requires : tie.Need-empty-requires Inv-loop μ-loop
 empty-requires c κs = tt
@@ -18,33 +28,82 @@ empty-requires c κs = tt
 store-requires : tie.Need-store-requires Inv-loop μ-loop
 store-requires c κs = omega arith
 
-loop-holds : tie.Need-loop-holds Inv-loop μ-loop
-loop-holds c = going-none _ _ _ _ _ _ _ (c .before .before .before .before .empty .ensures) (c .before .before .store .ensures)
+same-length : tie.Need-same-length Inv-loop μ-loop
+unfolding rows
+same-length c = c .before .before .before .store .ensures .same-rows
+
+returns : tie.Need-returns Inv-loop μ-loop
+returns c = going-all _ _ _ _ _ _ _ (c .before .before .before .before .before .empty .ensures) (c .before .before .before .store .ensures) _ _ _ (going-none _ _ _ _ _ _ _ (c .before .before .before .before .before .empty .ensures) (c .before .before .before .store .ensures)) (omega arith)
+
+reverse-requires : tie.Need-reverse-requires Inv-loop μ-loop
+unfolding rows
+reverse-requires c κs = (c .before .before .before .before .before .before .before .before .before .before .before .pre .1, omega arith)
 
 sub-i : tie.Need-sub-i Inv-loop μ-loop
 sub-i c = omega arith
 
-shared-slice-read-back : tie.Need-shared-slice-read-back Inv-loop μ-loop
-shared-slice-read-back c = omega (arith, c .before .before .loop .inv .within)
+shared-slice-read-load : tie.Need-shared-slice-read-load Inv-loop μ-loop
+shared-slice-read-load c = omega arith
 
-back-requires : tie.Need-back-requires Inv-loop μ-loop
-back-requires c κs = omega (arith, c .before .before .before .before .before .before .before .before .before .before .before .before .pre)
+cast-load : tie.Need-cast-load Inv-loop μ-loop
+cast-load c = omega (arith, c .shared-slice-known4 .given (length (c .before .before .before .before .before .before .before .before .before .before .before .before .before .args .text .now) - 1))
+
+load-requires : tie.Need-load-requires Inv-loop μ-loop
+load-requires c κs = omega (arith, c .before .before .before .before .before .before .before .before .before .before .before .before .before .pre, c .shared-slice-known4 .given (length (c .before .before .before .before .before .before .before .before .before .before .before .before .before .args .text .now) - 1))
+
+meet-requires : tie.Need-meet-requires Inv-loop μ-loop
+meet-requires c κs = tt
 
 store-requires-2 : tie.Need-store-requires-2 Inv-loop μ-loop
-store-requires-2 c κs = omega (arith, c .before .before .before .before .loop .inv .within, c .before .before .before .before .loop .inv .same-rows, c .before .before .before .before .before .before .before .store .ensures .same-rows, c .before .before .before .before .before .before .before .before .before .before .before .before .before .before .pre)
+store-requires-2 c κs = omega (arith, c .before .before .before .before .before .before .before .before .before .store .ensures .same-rows)
+
+loop-holds : tie.Need-loop-holds Inv-loop μ-loop
+unfolding rows
+loop-holds c = (omega arith, refl, memo-none _ _ 256 (omega arith), λ ends l G. G)
+
+sub-i-2 : tie.Need-sub-i-2 Inv-loop μ-loop
+sub-i-2 c = omega arith
+
+slice-aggregate-recall : tie.Need-slice-aggregate-recall Inv-loop μ-loop
+unfolding rows
+slice-aggregate-recall c = omega (arith, c .before .before .before .before .before .before .before .before .before .before .reverse .ensures .same-rows)
+
+shared-slice-read-recall : tie.Need-shared-slice-read-recall Inv-loop μ-loop
+shared-slice-read-recall c = omega (arith, c .before .before .before .before .before .loop .inv .0)
+
+recall-requires : tie.Need-recall-requires Inv-loop μ-loop
+unfolding rows
+recall-requires c κs = (c .before .before .before .before .before .before .before .before .before .before .before .before .before .before .before .before .before .before .before .before .before .before .before .before .before .pre .0, omega (arith, c .before .before .before .before .before .before .before .before .before .before .before .before .before .reverse .ensures .same-rows), c .before .before .before .before .before .loop .inv .2)
+
+store-requires-3 : tie.Need-store-requires-3 Inv-loop μ-loop
+store-requires-3 c κs = omega (arith, c .before .before .before .before .before .before .before .before .before .before .before .before .before .before .before .before .before .before .before .before .before .before .before .before .before .before .before .pre .2, c .before .before .before .before .before .before .before .loop .inv .0, c .before .before .before .before .before .before .before .loop .inv .1, c .before .before .before .before .before .before .before .before .before .before .before .before .before .before .before .before .before .before .before .before .store .ensures .same-rows, c .before .before .before .before .before .before .before .before .before .before .store2 .ensures .same-rows)
 
 loop-less : tie.Need-loop-less Inv-loop μ-loop
 loop-less c = omega arith
 
 loop-again : tie.Need-loop-again Inv-loop μ-loop
-loop-again c = going-more _ _ _ _ _ (c .before .before .before .before .before .before .before .loop .cells) _ (c .before .before .before .before .before .before .before .loop .next) (c .before .before .before .before .back .result) (c .before .before .before .before .before .before .before .loop .last) (c .before .before .before .before .before .before .before .loop .i) (c .before .before .before .before .before .before .before .loop .inv) (omega arith) (c .before .before .before .before .back .ensures) (c .before .before .store2 .ensures)
+loop-again c =
+    let l = c .before .before .before .before .before .before .before .before .before .before .loop in
+    let found = c .before .before .before .before .recall in (
+      omega (arith, l .inv .0),
+      c .before .before .store3 .ensures .same-rows ∙ l .inv .1,
+      found .ensures .memo,
+      λ ends k G.
+          going-more _ _ _ _ _ (l .cells) _ (l .next) (found .result) (l .i) (l .inv .3 ends k G) (omega arith)
+          (made-more _ _ _ _ _ _ (l .next) _ _ (l .i) (zeros-empty 64) (c .before .before .before .before .before .before .before .before .before .before .before .before .before .before .before .before .before .before .reverse .ensures) (l .inv .0) (found .ensures .found)) (c .before .before .store3 .ensures),
+    )
 
-same-length : tie.Need-same-length Inv-loop μ-loop
+same-length-2 : tie.Need-same-length-2 Inv-loop μ-loop
 unfolding rows
-same-length c = c .before .loop .inv .same-rows ∙ c .before .before .before .before .store .ensures .same-rows
+same-length-2 c = c .before .loop .inv .1 ∙ c .before .before .before .before .store2 .ensures .same-rows ∙ c .before .before .before .before .before .before .before .before .before .before .before .before .before .before .store .ensures .same-rows
 
-returns : tie.Need-returns Inv-loop μ-loop
-returns c = going-all _ _ _ _ _ _ _ (c .before .before .before .before .before .before .empty .ensures) (c .before .before .before .before .store .ensures) _ _ _ _ (c .before .loop .inv) (omega arith)
+returns-2 : tie.Need-returns-2 Inv-loop μ-loop
+returns-2 c =
+    let none = c .before .before .before .before .before .before .before .before .before .before .before .before .before .before .before .before .empty in
+    let end = c .before .before .before .before .before .before .before .before .before .before .before .before .before .before .store in
+    going-all _ _ _ _ _ _ _ (none .ensures) (end .ensures) _ _ _
+    (c .before .loop .inv .3 _ _ (going-last _ _ _ _ _ _ _ (none .ensures) (end .ensures) _ _ _ (omega arith) (c .before .before .before .before .before .before .before .load .ensures) (c .before .before .before .before .before .before .meet .ensures) (c .before .before .before .before .store2 .ensures)))
+    (omega arith)
 
 pub backward-spec : {M : Type 1} → statement M
 backward-spec =
@@ -54,12 +113,22 @@ backward-spec =
     μ-loop
     empty-requires
     store-requires
-    loop-holds
+    same-length
+    returns
+    reverse-requires
     sub-i
-    shared-slice-read-back
-    back-requires
+    shared-slice-read-load
+    cast-load
+    load-requires
+    meet-requires
     store-requires-2
+    loop-holds
+    sub-i-2
+    slice-aggregate-recall
+    shared-slice-read-recall
+    recall-requires
+    store-requires-3
     loop-less
     loop-again
-    same-length
-    returns)
+    same-length-2
+    returns-2)

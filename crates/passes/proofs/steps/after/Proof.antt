@@ -5,17 +5,17 @@ use mathlib.Core.Bool.{Bool, _||_, or-assoc, or-false}
 use Prim.Native.Nat.{ℕ}
 use native.Mathlib.Omega.{arith}
 use Rattle.sets.specs.Members.{has, Least, size}
-use Rattle.sets.proofs.SetLaws.{without-fewer}
+use Rattle.sets.proofs.SetLaws.{least-none, without-fewer}
 use Rattle.passes.specs.Ways.{joined}
 use Rattle.passes.proofs.Visits.{joined-more, joined-none}
 use Rattle.passes.proofs.steps.after.Statement.{statement}
 use Rattle.passes.proofs.steps.after.Tie as tie
 
 abbrev Inv-loop : tie.InvT-loop
-Inv-loop follow found₀ left₀ q₀ found left q = Least left q × ((k : ℕ) → (has found k || joined follow (has left) k) ≡ joined follow (has left₀) k)
+Inv-loop table found₀ left₀ q₀ found left q = Least left q × ((k : ℕ) → (has found k || joined table (has left) k) ≡ joined table (has left₀) k)
 
 abbrev μ-loop : tie.MeasureT-loop
-μ-loop follow found₀ left₀ q₀ found left q = size left
+μ-loop table found₀ left₀ q₀ found left q = size left
 
 empty-requires : tie.Need-empty-requires Inv-loop μ-loop
 empty-requires c κs = tt
@@ -51,7 +51,7 @@ loop-again c = (
 
 returns : tie.Need-returns Inv-loop μ-loop
 returns c =
-    λ k. sym (or-false _) ∙ ap (λ (t : Bool). has (c .before .loop .found) k || t) (sym (joined-none (c .before .loop .left) (c .before .loop .q) (c .before .loop .inv .0) (omega arith) _ k)) ∙ c .before .loop .inv .1 k
+    λ k. sym (or-false _) ∙ ap (λ (t : Bool). has (c .before .loop .found) k || t) (sym (joined-none (c .before .loop .left) (least-none _ _ (c .before .loop .inv .0) (omega arith)) _ k)) ∙ c .before .loop .inv .1 k
 
 pub after-spec : {M : Type 1} → statement M
 after-spec =
