@@ -10,7 +10,7 @@ use borrow.Author.Tests.{eqb-true, eqb-false}
 use Rattle.sets.specs.declared.set.Set.{Set}
 use Rattle.sets.specs.Members.{has, row, rows, Stored}
 use Rattle.passes.specs.Ways.{leading, Memo, Recalled}
-use Rattle.passes.proofs.Marked.{zeros-empty}
+use Rattle.sets.proofs.SetLaws.{zeros-empty}
 use Rattle.passes.proofs.Reach.{joined-ext}
 use Rattle.passes.proofs.Visits.{joined-none}
 

@@ -2,10 +2,10 @@
 use mathlib.Core.Path.{_≡_, refl, sym, ap, ap₂, _∙_}
 use mathlib.Core.Bool.{Bool, true, false, _&&_, not}
 use mathlib.Core.List.{List}
-use Prim.Native.Nat.{ℕ, _≤_, _<_}
+use Prim.Native.Nat.{ℕ, zero, suc, _≤_, _<_}
 use native.Mathlib.Omega.{arith}
 use lib.Dec.{eqb}
-use lib.ListN.{getD}
+use lib.ListN.{getD, replicate}
 use mir.Syntax.{w64}
 use mir.Val.{Val, Fits}
 use denote.Laws.{Is}
@@ -13,8 +13,9 @@ use borrow.Author.Tests.{ne-eqb, not-true, not-false}
 use Rattle.sets.specs.declared.set.Set.{Set}
 use Rattle.sets.specs.Members.{has, limit, size, vacant, meets, Least, SetFits, row}
 use Rattle.sets.proofs.set.Set.{the-row}
+use Rattle.bits.specs.Bit.{bit}
 use Rattle.bits.specs.Truth.{both, and-both}
-use Rattle.bits.proofs.Bits.{bit-lt, bit-same}
+use Rattle.bits.proofs.Bits.{bit-none, bit-lt, bit-same}
 use Rattle.bits.proofs.Tallies.{any-at, any-none, any-some, tally-less}
 
 -- ---- a set's members
@@ -70,6 +71,18 @@ module _ (s r : Set) (p : ℕ) (less : (q : ℕ) → has r q ≡ (has s q && not
 
   pub without-stays : (q : ℕ) → has s q ≡ true → (q ≡ p → ⊥) → has r q ≡ true
   without-stays q e n = less q ∙ ap₂ (λ (a b : Bool). a && not b) e (ne-eqb q p n)
+
+-- ---- a table of zeros
+
+pub zero-at : (n p : ℕ) → getD {A = ℕ} (replicate n 0) p 0 ≡ 0
+zero-at zero p = refl
+zero-at (suc n) zero = refl
+zero-at (suc n) (suc p) = zero-at n p
+
+-- each of its sets is empty
+pub zeros-empty : (n p q : ℕ) → has (row (replicate n 0) p) q ≡ false
+unfolding has row
+zeros-empty n p q = ap (λ (x : ℕ). bit limit x q) (zero-at n p) ∙ bit-none limit q
 
 -- ---- members settle a set that code holds
 

@@ -1,20 +1,22 @@
 -- From a read pattern to exact tables and filled cells. Assumes nothing.
 use mathlib.Core.Path.{_≡_, sym, ap, _∙_}
-use mathlib.Core.List.{List, [], _∷_, _++_}
-use Prim.Native.Nat.{ℕ, suc, _+_, _≤_, _<_}
+use mathlib.Core.List.{List, _++_}
+use Prim.Native.Nat.{ℕ, _+_, _≤_, _<_}
 use native.Mathlib.Omega.{arith}
 use lib.ListN.{length, getD, drop, replicate}
 use lib.Seq.{getD-drop}
 use mir.Syntax.{w8}
 use mir.Val.{Fits}
 use Rattle.meaning.specs.Expression.{Re}
-use Rattle.meaning.specs.Grammar.{Bytes, no-byte, byte}
+use Rattle.meaning.specs.Grammar.{Bytes}
 use Rattle.meaning.specs.Limits.{text-limit}
 use Rattle.meaning.specs.Promise.{cleared}
 use Rattle.passes.specs.Masks.{Masked}
 use Rattle.passes.specs.Ways.{Backed}
 use Rattle.passes.proofs.Living.{living-alive}
-use Rattle.passes.proofs.Marked.{masked-classes, zeros-empty}
+use Rattle.grammar.specs.ByteTests.{bytes-of}
+use Rattle.passes.proofs.Marked.{masked-classes}
+use Rattle.sets.proofs.SetLaws.{zeros-empty}
 use Rattle.passes.proofs.Rests.{backed-past}
 use Rattle.passes.specs.Tables.{Tables}
 use Rattle.sets.specs.declared.set.Set.{Set}
@@ -25,9 +27,8 @@ use Rattle.tree.specs.Judge.{Given, Judgeable, SoughtAs, Finds}
 use Rattle.tree.specs.Walk.{Charted}
 
 -- the elements of a slice of bytes
-pub bytes-of : (l : List ℕ) → ((i : ℕ) → Fits w8 (getD l i 0)) → Bytes l
-bytes-of [] h = no-byte
-bytes-of (b ∷ l) h = byte (h 0 .fits) (bytes-of l (λ i. h (suc i)))
+pub bytes-fit : (l : List ℕ) → ((i : ℕ) → Fits w8 (getD l i 0)) → Bytes l
+bytes-fit l h = bytes-of l (λ i _. h i .fits)
 
 pub charted-of : {ks gs ns fs us ts : List ℕ} {root : ℕ} {last : Set} → Tabled ks gs ns fs us ts root last → Charted ks gs ns fs us ts root
 charted-of T = record { scanned = T .scanned; upto = T .upto; long = T .long; follow = T .follow }
@@ -58,10 +59,10 @@ module _ {e : Re} {ks gs cs : List ℕ} {root n k : ℕ} (G : Given e ks gs cs r
       few-marks = G .few-marks;
       few-positions = G .few-positions;
       marks-are = G .marks-are;
-      bytes = bytes-of text b;
+      bytes = bytes-fit text b;
       short = s;
       enough = omega (arith, B .same-rows);
-      living = λ i q w. B .here i q w ∙ living-alive e mask ts last (row fs root) exact (bytes-of (drop i text) (λ j. rw (getD-drop i text j 0) (b (i + j)))) q;
+      living = λ i q w. B .here i q w ∙ living-alive e mask ts last (row fs root) exact (bytes-fit (drop i text) (λ j. rw (getD-drop i text j 0) (b (i + j)))) q;
       last = last;
       tables = exact;
     }

@@ -18,7 +18,7 @@ use Rattle.positions.specs.Room.{spare-most}
 use Rattle.positions.specs.RunWays.{resume-run-room}
 use Rattle.positions.specs.Runs.{Run, run, rowOf, outOf, otherOf, resumeRun, resume-run-same}
 use Rattle.positions.specs.Sets.{follows}
-use Rattle.passes.proofs.Marked.{zeros-empty}
+use Rattle.sets.proofs.SetLaws.{zeros-empty}
 use Rattle.sets.specs.declared.set.Set.{Set}
 use Rattle.sets.specs.Members.{has, row, Stored}
 use Rattle.walks.specs.declared.step.Step.{Step}

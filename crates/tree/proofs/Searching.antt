@@ -22,7 +22,7 @@ use Rattle.pattern.proofs.Unique.{Answers}
 use Rattle.tree.specs.declared.search.Found.{Found}
 use Rattle.tree.specs.Judge.{Given, Gives, Finds}
 use Rattle.tree.specs.Search.{Searched, refused, sought, number-of, value-of, flag-of}
-use Rattle.tree.proofs.Finding.{bytes-of}
+use Rattle.tree.proofs.Finding.{bytes-fit}
 
 -- no line before 4 applies
 pub ready : {pat text cells : List ℕ} → length pat ≤ pattern-limit → length text ≤ text-limit → length text < length cells → Ready pat text cells
@@ -40,7 +40,7 @@ module _ {pat : List ℕ} {P : ReadPattern} (bytes : (i : ℕ) → Fits w8 (getD
         all = omega (arith, h .nodes-are);
         within = omega (arith, h .few-nodes);
         fair = accepted-fair (H .accepted);
-        can-read = accepted-open (H .accepted) (bytes-of pat bytes);
+        can-read = accepted-open (H .accepted) (bytes-fit pat bytes);
         few-marks = H .accepted .few-marks;
         few-positions = H .accepted .few-positions;
         positions-are = h .positions-are;

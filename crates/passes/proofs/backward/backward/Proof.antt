@@ -8,7 +8,7 @@ use lib.ListN.{length}
 use Rattle.sets.specs.declared.set.Set.{Set}
 use Rattle.sets.specs.Members.{rows}
 use Rattle.passes.specs.Ways.{Memo}
-use Rattle.passes.proofs.Marked.{zeros-empty}
+use Rattle.sets.proofs.SetLaws.{zeros-empty}
 use Rattle.passes.proofs.Memos.{memo-none}
 use Rattle.passes.proofs.Rests.{Going, going-none, going-last, going-more, going-all, made-more}
 use Rattle.passes.proofs.backward.backward.Statement.{statement}
