@@ -1,7 +1,7 @@
 // The turn count.
-ghost use mathlib.Core.Path.{_≡_};
 ghost use Rattle.meaning.specs.Promise.{Counted};
 ghost use Rattle.tree.specs.Turns.{number-of, count-of};
+use walks::node::wide;
 
 // Marks are numbered from 1 up to this.
 pub const MARK_LIMIT: usize = 64;
@@ -9,13 +9,6 @@ pub const MARK_LIMIT: usize = 64;
 pub enum TurnCount {
     Count(usize),
     NoMark,
-}
-
-// A token, as a number to compare a mark with.
-fn wide(x: u16) -> usize
-    ensures { λ r. ⌜ r ≡ x ⌝ }
-{
-    x as usize
 }
 
 // How many tokens of the row equal the mark.
