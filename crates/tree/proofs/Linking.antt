@@ -1,100 +1,47 @@
--- Links: a row that was written is copied, and what is kept stays right. Assumes nothing.
+-- Links: the ways that a walk has gone are kept, and what is kept stays right. Assumes nothing.
 use mathlib.Core.Path.{_≡_, refl, sym, ap, _∙_}
 use mathlib.Core.Bool.{Bool, true, false, _&&_, false≢true}
-use mathlib.Core.List.{List, [], _∷_, _++_}
-use Prim.Native.Nat.{ℕ, zero, suc, _+_, _*_, _-_, _≤_, _<_}
-use native.Mathlib.Nat.{add-zero, add-suc, suc-add}
-use native.Mathlib.Numerals.{add-one}
+use mathlib.Core.List.{List}
+use Prim.Native.Nat.{ℕ, _+_, _*_, _-_, _≤_, _<_}
 use native.Mathlib.Omega.{arith}
 use borrow.Author.Tests.{eqb-true, eqb-false}
 use lib.Dec.{eqb}
-use lib.ListN.{length, getD, set, take, replicate, length-set}
-use lib.Seq.{sets, length-sets, length-take-le, take-suc, take-length, set-out, getD-set-same, getD-set-other}
-use Rattle.meaning.specs.Expression.{Re, marks, size}
+use lib.ListN.{length, getD, set, replicate, length-set}
+use lib.Seq.{getD-set-same, getD-set-other}
+use Rattle.meaning.specs.Expression.{Re, marks}
 use Rattle.grammar.specs.Fair.{Fair}
 use Rattle.positions.specs.Links.{resume-near}
-use Rattle.positions.specs.Positions.{Out, pass, at}
-use Rattle.positions.specs.Room.{spare-most}
-use Rattle.positions.specs.RunWays.{resume-run-room}
-use Rattle.positions.specs.Runs.{Run, run, rowOf, outOf, otherOf, resumeRun, resume-run-same}
+use Rattle.positions.specs.Positions.{pass, at}
+use Rattle.positions.specs.Runs.{Run, run, rowOf, resumeRun, resume-run-same}
 use Rattle.positions.specs.Sets.{follows}
 use Rattle.sets.proofs.SetLaws.{zeros-empty}
 use Rattle.sets.specs.declared.set.Set.{Set}
 use Rattle.sets.specs.Members.{has, row, Stored}
 use Rattle.walks.specs.declared.step.Step.{Step}
 use Rattle.walks.specs.declared.step.Step.the-variants.{Passed, Stopped}
-use Rattle.walks.specs.Resume.{Placed}
-use Rattle.walks.specs.Steps.{stepOf, cursor, Wrote}
-use Rattle.walks.proofs.Written.{sets-append, wrote-cursor}
-use Rattle.tree.specs.Links.{flag, Link, LinkAt, four, Kept, Linked, Recalled, Keeps}
+use Rattle.walks.specs.Steps.{cursor, Wrote}
+use Rattle.walks.proofs.Written.{wrote-cursor}
+use Rattle.tree.specs.Links.{flag, Link, LinkAt, four, PlaceOf, Kept, Keeps}
+use Rattle.tree.specs.Rows.{Below}
 use Rattle.tree.proofs.Along.{apart}
+use Rattle.tree.proofs.Standing.{written-below, written-shows, shows-still}
 
--- ---- a row that is written
+-- ---- what is written behind a link leaves it
 
-below : (r t : List ℕ) (a j : ℕ) → j < a → getD (sets t a r) j 0 ≡ getD t j 0
-below [] t a j h = refl
-below (v ∷ r) t a j h = below r (set t a v) (suc a) j (omega arith) ∙ getD-set-other t a j v 0 (λ z. omega arith)
-
-inside : (r t : List ℕ) (a i : ℕ) → i < length r → a + i < length t → getD (sets t a r) (a + i) 0 ≡ getD r i 0
-inside [] t a i h l = absurd (omega arith)
-inside (v ∷ r) t a zero h l =
-    rw (add-zero a) (below r (set t a v) (suc a) a (omega arith) ∙ getD-set-same t a v 0 (omega arith))
-inside (v ∷ r) t a (suc i) h l = rw (add-suc a i, ← suc-add a i) (inside r (set t a v) (suc a) i (omega arith) (omega (arith, length-set t a v)))
-
-pub copy-length : {t′ : List ℕ} (t : List ℕ) (k v : ℕ) → t′ ≡ set t k v → length t′ ≡ length t
-copy-length t k v z = ap length z ∙ length-set t k v
-
--- one token more of a copy
-pub copy-more : {t : List ℕ} (t₀ r : List ℕ) (a i : ℕ) {v : ℕ} → t ≡ sets t₀ a (take i r) → i < length r → v ≡ getD r i 0 → set t (a + i) v ≡ sets t₀ a (take (i + 1) r)
-copy-more {t} t₀ r a i {v} z h y =
-    let k : length (take i r) ≡ i = length-take-le i r (omega arith) in
-    let s : take (i + 1) r ≡ take i r ++ (getD r i 0 ∷ []) = rw (add-one i) (take-suc r i 0 h) in
-    ap (λ (w : ℕ). set t (a + i) w) y ∙ ap (λ (l : List ℕ). set l (a + i) (getD r i 0)) z ∙ ap (λ (n : ℕ). set (sets t₀ a (take i r)) (a + n) (getD r i 0)) (sym k)
-    ∙ sets-append (take i r) (getD r i 0 ∷ []) t₀ a ∙ ap (sets t₀ a) (sym s)
-
--- the token to copy is the row's, since the row is written behind where it stands
-pub copy-token : {t : List ℕ} (t₀ r : List ℕ) (a from long i : ℕ) → t ≡ sets t₀ a (take i r) → from + long ≤ a → i < long → a + i < length t
-    → ((k : ℕ) → k < long → from + k < length t₀ → getD t₀ (from + k) 0 ≡ getD r k 0) → getD t (from + i) 0 ≡ getD r i 0
-copy-token {t} t₀ r a from long i z h k l f =
-    ap (λ (x : List ℕ). getD x (from + i) 0) z ∙ below (take i r) t₀ a (from + i) (omega arith) ∙ f i k (omega (arith, ap length z, length-sets t₀ a (take i r)))
-
-pub copy-out : {t : List ℕ} (t₀ r : List ℕ) (a i : ℕ) → t ≡ sets t₀ a (take i r) → i < length r → length t ≤ a + i → t ≡ sets t₀ a (take (i + 1) r)
-copy-out {t} t₀ r a i z h l = sym (set-out t (a + i) (getD r i 0) l) ∙ copy-more t₀ r a i z h refl
-
-pub copy-end : {t : List ℕ} (t₀ r : List ℕ) (a i : ℕ) → t ≡ sets t₀ a (take i r) → i ≡ length r → t ≡ sets t₀ a r
-copy-end t₀ r a i z h = z ∙ ap (λ (n : ℕ). sets t₀ a (take n r)) h ∙ ap (sets t₀ a) (take-length r)
-
--- ---- links
-
-flag-back : (w : Bool) → eqb (flag w) 1 ≡ w
-flag-back true = refl
-flag-back false = refl
-
-pub recalled : {R : Run} {links t t′ : List ℕ} {s c : ℕ} {r : Step} → LinkAt R links t c s → Recalled links s t t′ c r → Wrote t t′ c r R
-recalled {R} {links} {t} {t′} {s} {c} {r} L C = record {
-  row = C .copied (rowOf R) (sym (L .long-is)) (L .row);
-  step = C .step ∙ go (outOf R) (otherOf R) (L .out) (L .bit);
-}
-  where
-    go : (o : Out) (w : Bool) → o ≡ at (getD links (4 * s) 0) → getD links (4 * s + 3) 0 ≡ flag w
-        → Stopped (getD links (4 * s) 0) (c + getD links (4 * s + 2) 0) (eqb (getD links (4 * s + 3) 0) 1) ≡ stepOf o (c + length (rowOf R)) w
-    go o w x y = rw (x, y, flag-back w, L .long-is) refl
-
--- what is written behind a link leaves it
-link-on : {R : Run} {t t′ : List ℕ} {c c′ to from long other : ℕ} (ρ : List ℕ) → Link R t c to from long other → t′ ≡ sets t c ρ → c ≤ c′ → Link R t′ c′ to from long other
-link-on {t = t} {c = c} {from = from} ρ L z h = record {
+link-on : {R : Run} {t t′ : List ℕ} {c c′ to from long other : ℕ} → Link R t c to from long other → Below t t′ c → c ≤ c′ → Link R t′ c′ to from long other
+link-on {R = R} {from = from} L B h = record {
   out = L .out;
   long-is = L .long-is;
   bit = L .bit;
   past = omega (arith, L .past);
-  row = λ i k l. ap (λ (x : List ℕ). getD x (from + i) 0) z ∙ below ρ t c (from + i) (omega (arith, L .past)) ∙ L .row i k (omega (arith, ap length z, length-sets t c ρ));
+  row = shows-still from (rowOf R) (L .row) B (omega (arith, L .past, L .long-is));
 }
 
-kept-on : {e : Re} {keys links t t′ : List ℕ} {c c′ : ℕ} (ρ : List ℕ) → Kept e keys links t c → t′ ≡ sets t c ρ → c ≤ c′ → Kept e keys links t′ c′
-kept-on ρ K z h = record { link = λ j i p k y. link-on ρ (K .link j i p k y) z h }
+pub kept-on : {e : Re} {keys links t t′ : List ℕ} {c c′ : ℕ} → Kept e keys links t c → Below t t′ c → c ≤ c′ → Kept e keys links t′ c′
+kept-on K B h = record { link = λ j s p k y. link-on (K .link j s p k y) B h }
 
 pub kept-wrote : {e : Re} {keys links t t′ : List ℕ} {c : ℕ} {r : Step} (R : Run) → Kept e keys links t c → Wrote t t′ c r R → Kept e keys links t′ (cursor r)
-kept-wrote R K W = kept-on (rowOf R) K (W .row) (omega (arith, wrote-cursor W))
+kept-wrote {t = t} {c = c} R K W = kept-on K (written-below t (rowOf R) c (W .row)) (omega (arith, wrote-cursor W))
 
 link-new : {t t′ : List ℕ} {c c′ q : ℕ} {w : Bool} {r : Step} (R : Run) → Wrote t t′ c r R → r ≡ Stopped q c′ w → Link R t′ c′ q c (c′ - c) (flag w)
 link-new (run ρ pass v) W z = absurd (apart (sym (W .step) ∙ z))
@@ -103,13 +50,7 @@ link-new {t} {t′} {c} {c′} {q} {w} (run ρ (at p) v) W z =
     let i : p ≡ q = cc in
     let j : c + length ρ ≡ c′ = cc in
     let k : w ≡ v = cc in
-    record {
-      out = ap at i;
-      long-is = omega arith;
-      bit = ap flag k;
-      past = omega arith;
-      row = λ n h l. ap (λ (x : List ℕ). getD x (c + n) 0) (W .row) ∙ inside ρ t c n (omega arith) (omega (arith, ap length (W .row), length-sets t c ρ));
-    }
+    record { out = ap at i; long-is = omega arith; bit = ap flag k; past = omega arith; row = written-shows t ρ c (W .row) }
 
 -- ---- the places
 
@@ -171,91 +112,54 @@ link-off l s s′ a b c d n L =
     )
     L
 
--- one more link
-kept-new : {e : Re} {keys keys′ links t : List ℕ} {m : ℕ} {goal : Set} (j h a b c d : ℕ) → Kept e keys links t m → h < 4 → 4 * (4 * j + h) + 3 < length links → Stored goal (4 * j + h) keys keys′
-    → Link (resumeRun 0 0 e j (has goal) false) t m a b c d → Kept e keys′ (four links (4 * j + h) a b c d) t m
-kept-new {e} {keys} {keys′} {links} {t} {m} {goal} j h a b c d K i n S L = record { link = λ j′ h′ p i′ y. go j′ h′ p i′ y (eqb (4 * j′ + h′) (4 * j + h)) refl }
+-- one more link, which is asked for where the goal has a member
+kept-new : {e : Re} {keys keys′ links t : List ℕ} {m : ℕ} {goal : Set} (j s a b c d : ℕ) → Kept e keys links t m → PlaceOf j s → 4 * s + 3 < length links → Stored goal s keys keys′
+    → ((p : ℕ) → has goal p ≡ true → Link (resumeRun 0 0 e j (has goal) false) t m a b c d) → Kept e keys′ (four links s a b c d) t m
+kept-new {e} {keys} {keys′} {links} {t} {m} {goal} j s a b c d K P n S L = record { link = λ j′ s′ p P′ y. go j′ s′ p P′ y (eqb s′ s) refl }
   where
-    go : (j′ h′ p : ℕ) → h′ < 4 → has (row keys′ (4 * j′ + h′)) p ≡ true → (v : Bool) → eqb (4 * j′ + h′) (4 * j + h) ≡ v
-        → LinkAt (resumeRun 0 0 e j′ (has (row keys′ (4 * j′ + h′))) false) (four links (4 * j + h) a b c d) t m (4 * j′ + h′)
-    go j′ h′ p i′ y true z =
-        let x = eqb-true (4 * j′ + h′) (4 * j + h) z in
-        let u : j′ ≡ j = omega arith in
-        let v : h′ ≡ h = omega arith in
-        rw (u, v, S .here) (link-at links (4 * j + h) a b c d n L)
-    go j′ h′ p i′ y false z =
-        let x = eqb-false (4 * j′ + h′) (4 * j + h) z in
-        let o = S .other (4 * j′ + h′) x in
-        rw o (link-off links (4 * j + h) (4 * j′ + h′) a b c d x (K .link j′ h′ p i′ (rw o at y)))
+    go : (j′ s′ p : ℕ) → PlaceOf j′ s′ → has (row keys′ s′) p ≡ true → (v : Bool) → eqb s′ s ≡ v → LinkAt (resumeRun 0 0 e j′ (has (row keys′ s′)) false) (four links s a b c d) t m s′
+    go j′ s′ p P′ y true z =
+        let x = eqb-true s′ s z in
+        let u : j′ ≡ j = omega (arith, P .from, P .below, P′ .from, P′ .below) in
+        let k : has goal p ≡ true = sym (ap (λ (g : Set). has g p) (S .here)) ∙ ap (λ (i : ℕ). has (row keys′ i) p) (sym x) ∙ y in
+        rw (u, x, S .here) (link-at links s a b c d n (L p k))
+    go j′ s′ p P′ y false z =
+        let x = eqb-false s′ s z in
+        let o = S .other s′ x in
+        rw o (link-off links s s′ a b c d x (K .link j′ s′ p P′ (rw o at y)))
 
--- ---- the way on from position q, to the positions `near` of the goal
+-- ---- the way on from position q, to the positions `near` of the goal that may follow it
 
-module _ {e : Re} {keys links t : List ℕ} {c : ℕ} (q h : ℕ) (near : Set) (least : ℕ) (K : Kept e keys links t c) (i : h < 4) (y : has near least ≡ true)
-    (same : (p : ℕ) → has (row keys (4 * q + h)) p ≡ has near p) where
-  hit-link : LinkAt (resumeRun 0 0 e q (has near) false) links t c (4 * q + h)
-  hit-link = rw (← resume-run-same 0 0 e q (has (row keys (4 * q + h))) (has near) false same) (K .link q h least i (same least ∙ y))
+module _ {e : Re} (q : ℕ) (near goal : Set) (f : Fair e) (m : marks e ≤ 127) (n : (p : ℕ) → has near p ≡ (follows 0 e q p && has goal p)) where
+  near-run : (p : ℕ) → has near p ≡ true → resumeRun 0 0 e q (has goal) false ≡ resumeRun 0 0 e q (has near) false
+  near-run p y = resume-near f m q p (has goal) (has near) n y
 
-  -- its row stands before c and is short
-  pub hit-past : getD links (4 * (4 * q + h) + 1) 0 + getD links (4 * (4 * q + h) + 2) 0 ≤ c
-  hit-past = hit-link .past
+  -- a link whose goal is the same as `near`
+  pub kept-link : {keys links t : List ℕ} {c : ℕ} (s p : ℕ) → Kept e keys links t c → PlaceOf q s → has near p ≡ true → ((p : ℕ) → has (row keys s) p ≡ has near p) → LinkAt (resumeRun 0 0 e q (has goal) false) links t c s
+  kept-link {keys} s p K P y same = rw (near-run p y, ← resume-run-same 0 0 e q (has (row keys s)) (has near) false same) (K .link q s p P (same p ∙ y))
 
-  pub hit-short : q < size e → getD links (4 * (4 * q + h) + 2) 0 ≤ 4 * marks e
-  hit-short k =
-      let l = resume-run-room 0 0 e q (has near) false (omega arith, omega arith) in
-      omega (arith, l, spare-most (outOf (resumeRun 0 0 e q (has near) false)) (marks e), hit-link .long-is)
+  -- after a walk to the goal, which is kept
+  pub kept-more : {keys keys′ links links′ t t′ : List ℕ} {c : ℕ} {u r : Step} (s : ℕ) → Kept e keys links t c → PlaceOf q s → 4 * s + 3 < length links
+      → Wrote t t′ c u (resumeRun 0 0 e q (has goal) false) → Keeps s near c u r keys keys′ links links′ → Kept e keys′ links′ t′ (cursor r)
+  kept-more {keys} {keys′} {links} {links′} {t} {t′} {c} {u} {r} s K P l W S = rw (S .same-step) (go u refl)
+    where
+      old : Kept e keys links t′ (cursor u)
+      old = kept-wrote _ K W
 
-  pub hit-wrote : {t′ : List ℕ} {r : Step} → Recalled links (4 * q + h) t t′ c r → Wrote t t′ c r (resumeRun 0 0 e q (has near) false)
-  hit-wrote C = recalled hit-link C
-
--- the same run to the whole goal
-pub near-went : {e : Re} {keys links t t′ : List ℕ} {c : ℕ} {last : Bool} {r : Step} (q : ℕ) (near goal : Set) (least : ℕ) → Fair e → marks e ≤ 127 → last ≡ false → ((p : ℕ) → has near p ≡ (follows 0 e q p && has goal p))
-    → has near least ≡ true → Wrote t t′ c r (resumeRun 0 0 e q (has near) false) → Kept e keys links t′ (cursor r) → Wrote t t′ c r (resumeRun 0 0 e q (has goal) last) × Kept e keys links t′ (cursor r)
-near-went {e} q near goal least f m l n y W K = (rw (l, resume-near f m q least (has goal) (has near) n y) W, K)
-
--- after a walk, which is kept
-pub miss-kept : {e : Re} {keys keys′ links links′ t t′ : List ℕ} {c : ℕ} {near : Set} {u r : Step} (q h : ℕ) → Kept e keys links t c → h < 4 → 4 * (4 * q + h) + 3 < length links
-    → Wrote t t′ c u (resumeRun 0 0 e q (has near) false) → Keeps (4 * q + h) near c u r keys keys′ links links′ → Kept e keys′ links′ t′ (cursor r)
-miss-kept {e} {keys} {keys′} {links} {links′} {t} {t′} {c} {near} {u} {r} q h K i n W S = rw (S .same-step) (go u refl)
-  where
-    old : Kept e keys links t′ (cursor u)
-    old = kept-wrote _ K W
-
-    go : (x : Step) → u ≡ x → Kept e keys′ links′ t′ (cursor u)
-    go (Passed d w) z = let p = S .passed d w z in rw (p .0, p .1) old
-    go (Stopped p d w) z =
-        let s = S .stopped p d w z in
-        let k : cursor u ≡ d = ap cursor z in
-        let o : Kept e keys links t′ d = rw k at old in
-        rw (k, s .1) (kept-new q h p c (d - c) (flag w) o i n (s .0) (link-new _ W z))
+      go : (x : Step) → u ≡ x → Kept e keys′ links′ t′ (cursor u)
+      go (Passed d w) z = let p = S .passed d w z in rw (p .0, p .1) old
+      go (Stopped p d w) z =
+          let x = S .stopped p d w z in
+          let k : cursor u ≡ d = ap cursor z in
+          let o : Kept e keys links t′ d = rw k at old in
+          rw (k, x .1) (kept-new q s p c (d - c) (flag w) o P l (x .0) (λ p y. rw (← near-run p y) (link-new _ W z)))
 
 -- what a position may be followed by, in the goal
 pub near-is : (e : Re) (ts : List ℕ) (q : ℕ) (at-q near goal : Set) → ((p : ℕ) → has (row ts q) p ≡ follows 0 e q p) → at-q ≡ row ts q → ((p : ℕ) → has near p ≡ (has at-q p && has goal p)) → (p : ℕ) → has near p ≡ (follows 0 e q p && has goal p)
 near-is e ts q at-q near goal f z n p = n p ∙ ap (λ (b : Bool). b && has goal p) (ap (λ (s : Set). has s p) z ∙ f p)
 
 pub kept-none : (e : Re) (n : ℕ) (links t : List ℕ) (c : ℕ) → Kept e (replicate n 0) links t c
-kept-none e n links t c = record { link = λ j h p i y. absurd (false≢true (sym (zeros-empty n (4 * j + h) p) ∙ y)) }
-
-pub linked-placed : {ks gs keys links t : List ℕ} {root j c from : ℕ} → Linked ks gs root j keys links t c from → Placed ks gs root j from
-linked-placed L = record { e = L .e; m = 0; p = 0; holds = L .holds; within = L .within; inside = (omega arith, omega (arith, L .inside)); few = omega (arith, L .few-marks); room = L .room }
-
--- ---- a letter before the marks
-
-pub kept-put : {e : Re} {keys links t t′ : List ℕ} {c c′ : ℕ} (v : ℕ) → Kept e keys links t c → c′ ≡ c + 1 → t′ ≡ set t c v → Kept e keys links t′ c′
-kept-put v K z y = kept-on (v ∷ []) K y (omega arith)
-
-pub linked-put : {ks gs keys links t t′ : List ℕ} {root j c c′ : ℕ} (v : ℕ) → Linked ks gs root j keys links t c (c + 1) → c′ ≡ c + 1 → t′ ≡ set t c v → Linked ks gs root j keys links t′ c′ c′
-linked-put v L z y = record {
-  e = L .e;
-  holds = L .holds;
-  within = L .within;
-  inside = L .inside;
-  few = L .few;
-  few-marks = L .few-marks;
-  room = omega (arith, L .room);
-  all-keys = L .all-keys;
-  all-links = L .all-links;
-  kept = kept-put v (L .kept) z y;
-}
+kept-none e n links t c = record { link = λ j s p i y. absurd (false≢true (sym (zeros-empty n s p) ∙ y)) }
 
 -- ---- what `keep` does
 

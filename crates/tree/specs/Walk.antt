@@ -7,22 +7,21 @@ use lib.ListN.{length, drop}
 use lib.Seq.{sets}
 use Rattle.meaning.specs.Expression.{Re, marks, size}
 use Rattle.meaning.specs.Limits.{text-limit, mark-limit}
-use Rattle.meaning.specs.Tree.{letter}
 use Rattle.grammar.specs.Fair.{Fair}
 use Rattle.laws.specs.Holds.{Holds}
 use Rattle.positions.specs.Alive.{alive}
-use Rattle.positions.specs.Runs.{put, resumeRun}
 use Rattle.positions.specs.Sets.{follows}
 use Rattle.positions.specs.Theorem.{found, firstRow, otherTree}
-use Rattle.sets.specs.declared.set.Set.{Set}
 use Rattle.sets.specs.Members.{has, limit, row, rows}
 use Rattle.walks.specs.declared.step.Step.{Step}
 use Rattle.walks.specs.declared.step.Step.the-variants.{Passed, Stopped}
 use Rattle.walks.specs.Enter.{Scanned}
-use Rattle.walks.specs.Steps.{noted}
 use Rattle.walks.specs.Tables.{Known, number, EndAt}
+use Rattle.tree.specs.declared.glide.Stand.{Stand}
 use Rattle.tree.specs.declared.walk.Walked.{Walked}
-use Rattle.tree.specs.Links.{Linked, Went}
+use Rattle.tree.specs.Along.{Goes}
+use Rattle.tree.specs.Glide.{stood}
+use Rattle.tree.specs.Links.{Linked}
 
 -- the tables of the nodes are right up to the root, and that of the positions says which may follow each
 pub record Charted (ks gs ns fs us ts : List ℕ) (root : ℕ) : Type 0 where
@@ -30,20 +29,6 @@ pub record Charted (ks gs ns fs us ts : List ℕ) (root : ℕ) : Type 0 where
   pub upto : Known number (EndAt ks gs) us root
   pub long : rows ts ≡ limit
   pub follow : (e : Re) → Holds ks gs 0 0 root e → (j : ℕ) → j < size e → (q : ℕ) → has (row ts j) q ≡ follows 0 e j q
-
--- from position j, which has read the byte b: the letter, and the marks up to the next position of the goal or, if `last`, to the end
-abbrev pub StepsAt : List ℕ → List ℕ → ℕ → ℕ → ℕ → Set → Bool → List ℕ → List ℕ → List ℕ → List ℕ → List ℕ → List ℕ → ℕ → Step → Type 0
-StepsAt ks gs root j b goal last keys keys′ links links′ t t′ from r = Went ks gs root j (λ e. put (letter b) (resumeRun 0 0 e j (has goal) last)) keys keys′ links links′ t t′ from r
-
--- a walk that stands before a position has room to go on
-abbrev pub Stands : List ℕ → List ℕ → ℕ → List ℕ → List ℕ → List ℕ → Step → Type 0
-Stands ks gs root keys links t s = (q c : ℕ) (w : Bool) → s ≡ Stopped q c w → Linked ks gs root q keys links t c (c + 1)
-
--- the same from where the step s stands
-pub record Advances (ks gs : List ℕ) (root b : ℕ) (goal : Set) (last : Bool) (keys keys′ links links′ t t′ : List ℕ) (s r : Step) : Type 0 where
-  pub same-keys : rows keys′ ≡ rows keys
-  pub same-links : length links′ ≡ length links
-  pub on : (q c : ℕ) (w : Bool) → s ≡ Stopped q c w → (u : Step) × StepsAt ks gs root q b goal last keys keys′ links links′ t t′ c u × (r ≡ noted w u)
 
 -- the root holds e, and the cells hold the positions that are alive at each place of the text, which has a tree
 pub record Walkable (e : Re) (ks gs : List ℕ) (root : ℕ) (text cells : List ℕ) : Type 0 where
@@ -61,6 +46,23 @@ pub record Walkable (e : Re) (ks gs : List ℕ) (root : ℕ) (text cells : List 
 pub record Walks (ks gs : List ℕ) (root : ℕ) (text cells : List ℕ) : Type 0 where
   pub e : Re
   pub walkable : Walkable e ks gs root text cells
+
+-- r is where the step s stands after i bytes
+pub record Stands (s : Step) (i : ℕ) (r : Stand) : Type 0 where
+  pub read : r .read ≡ i
+  pub step : (q c : ℕ) (w : Bool) → s ≡ Stopped q c w → stood r ≡ s
+
+-- a byte is left, and there is room to go on
+pub record Advances (ks gs : List ℕ) (root : ℕ) (text cells keys links : List ℕ) (s : Stand) : Type 0 where
+  pub linked : Linked ks gs root (s .position) keys links (s .at + 1)
+  pub left : s .read < length text
+  pub enough : length text < rows cells
+
+-- one byte more from where s stands
+pub record Advanced (ks gs : List ℕ) (root : ℕ) (text cells keys keys′ links links′ t t′ : List ℕ) (s : Stand) (r : Step) : Type 0 where
+  pub same-keys : rows keys′ ≡ rows keys
+  pub same-links : length links′ ≡ length links
+  pub goes : (e : Re) → Walkable e ks gs root text cells → Goes e text keys keys′ links links′ t t′ (stood s) r (s .read) (s .read + 1)
 
 -- the row of the first tree is written as far as it fits; its length, and whether there is another tree
 pub record Writes (e : Re) (text t t′ : List ℕ) (r : Walked) : Type 0 where

@@ -1,43 +1,21 @@
-// Links: the way on from a position, copied where a walk has written it before.
+// Links: the ways on from a position that a walk has gone are kept, so that `glide` can go them again.
 ghost use mathlib.Core.Path.{_≡_};
-ghost use Prim.Native.Nat.{_+_, _*_, _≤_, _<_, _^_};
-ghost use lib.ListN.{length, getD};
-ghost use Rattle.positions.specs.Runs.{resumeRun};
-ghost use Rattle.sets.specs.Members.{has, rows};
+ghost use Prim.Native.Nat.{_≤_, _<_};
+ghost use lib.ListN.{length};
+ghost use Rattle.sets.specs.Members.{limit, rows};
 ghost use Rattle.walks.specs.Steps.{cursor};
-ghost use Rattle.tree.specs.Links.{flag, Copied, Recalled, Keeps, Linked, Went};
+ghost use Rattle.tree.specs.Links.{flag, Keeps, Linked, PlaceOf, Went};
 ghost use Rattle.tree.specs.Walk.{Charted};
-use sets::set::LIMIT;
 use sets::set::Set;
 use walks::resume::resume;
 use walks::step::Step;
 
-// Copies `long` tokens of the tree from `from` to `at`, as far as they fit.
-fn copy(tree: &mut [u16], from: usize, long: usize, at: usize)
-    requires { ⌜ (from + long ≤ at) × (at + long < 2 ^ 64) ⌝ }
-    ensures { λ _. ⌜ Copied (now (tree .entry)) (now (tree .exit)) from long at ⌝ }
+// Where the way on from position q to the goal is kept: at one of four places, by the goal's least member, which is known before q is.
+pub fn kept_at(q: usize, goal: Set) -> usize
+    requires { ⌜ q < limit ⌝ }
+    ensures { λ r. ⌜ PlaceOf q r ⌝ }
 {
-    let mut i = 0;
-    while i < long {
-        let there = at + i;
-        if there < tree.len() {
-            tree[there] = tree[from + i];
-        }
-        i += 1;
-    }
-}
-
-// Goes the way that is kept at place s: where it leads, where its row begins, how long that is, and 1 where there was another way.
-fn recall(links: &[usize; 1024], s: usize, tree: &mut [u16], at: usize) -> Step
-    requires { ⌜ (s < 256) × (getD (now links) (4 * s + 1) 0 + getD (now links) (4 * s + 2) 0 ≤ at) × (at + getD (now links) (4 * s + 2) 0 < 2 ^ 64) ⌝ }
-    ensures { λ r. ⌜ Recalled (now (links .entry)) s (now (tree .entry)) (now (tree .exit)) at r ⌝ }
-{
-    let k = 4 * s;
-    let to = links[k];
-    let long = links[k + 2];
-    let other = links[k + 3] == 1;
-    copy(tree, links[k + 1], long, at);
-    Step::Stopped(to, at + long, other)
+    4 * q + goal.first() % 4
 }
 
 // A yes as 1.
@@ -77,8 +55,8 @@ fn keep(
     }
 }
 
-// Goes on from position q, as `resume` does from the root. Which marks are written depends on the positions of the goal that may follow q
-// alone, so the row is copied where those were the goal before.
+// Goes on from position q, as `resume` does from the root, and keeps the way for the positions of the goal that may follow q: which marks are
+// written depends on them alone.
 pub fn onward<'a>(
     kind: &'a [u8; 1024],
     arg: &'a [u16; 1024],
@@ -95,22 +73,14 @@ pub fn onward<'a>(
     tree: &mut [u16],
     at: usize,
 ) -> Step
-    requires { ⌜ Linked (now kind) (now arg) root q (now keys) (now links) (now tree) at at ⌝ }
+    requires { ⌜ Linked (now kind) (now arg) root q (now keys) (now links) at ⌝ }
     requires { ⌜ Charted (now kind) (now arg) (now null) (now first) (now upto) (now follow) root ⌝ }
-    ensures { λ r. ⌜ Went (now (kind .entry)) (now (arg .entry)) root q (λ e. resumeRun 0 0 e q (has goal) last) (now (keys .entry)) (now (keys .exit)) (now (links .entry)) (now (links .exit)) (now (tree .entry)) (now (tree .exit)) at r ⌝ }
+    ensures { λ r. ⌜ Went (now (kind .entry)) (now (arg .entry)) root q goal last (now (keys .entry)) (now (keys .exit)) (now (links .entry)) (now (links .exit)) (now (tree .entry)) (now (tree .exit)) at r ⌝ }
 {
+    let u = resume(kind, arg, null, first, upto, root, q, goal, last, tree, at);
     if last {
-        return resume(kind, arg, null, first, upto, root, q, goal, last, tree, at);
+        return u;
     }
     let near = Set::load(follow, q).meet(goal);
-    let least = near.first();
-    if LIMIT <= least {
-        return resume(kind, arg, null, first, upto, root, q, goal, last, tree, at);
-    }
-    let s = 4 * q + least % 4;
-    if Set::load(keys, s).same(near) {
-        return recall(links, s, tree, at);
-    }
-    let u = resume(kind, arg, null, first, upto, root, q, near, last, tree, at);
-    keep(keys, links, s, near, at, u)
+    keep(keys, links, kept_at(q, goal), near, at, u)
 }
