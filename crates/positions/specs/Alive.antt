@@ -3,8 +3,10 @@ use mathlib.Core.Path.{_≡_, refl}
 use mathlib.Core.Bool.{Bool, true, false, _&&_, false≢true, or-false, and-true, and-false}
 use mathlib.Core.List.{List, [], _∷_}
 use mathlib.Core.Logic.{_↔_}
-use Prim.Native.Nat.{ℕ, _<_}
+use Prim.Native.Nat.{ℕ, suc, _<_}
 use native.Mathlib.Omega.{arith}
+use lib.ListN.{length, getD, drop}
+use lib.Seq.{drop-cons}
 use Rattle.meaning.specs.Expression.{Re, size}
 use Rattle.positions.specs.Positions.{Out, at, Resume, At, Trace, done, step}
 use Rattle.positions.specs.Sets.{reads-in}
@@ -32,6 +34,13 @@ alive-last e c q = rw (none-reached e q, and-true (ends 0 e q))
 
 pub alive-more : (e : Re) (c d : ℕ) (s : List ℕ) (q : ℕ) → alive e (c ∷ d ∷ s) q ≡ (reads 0 e q c && reaches 0 e q (alive e (d ∷ s)))
 alive-more e c d s q = unfold alive in rw (and-false (ends 0 e q), or-false (reaches 0 e q (alive e (d ∷ s))))
+
+-- the same by places of a text
+pub alive-at : (e : Re) (s : List ℕ) (i q : ℕ) → suc i < length s → alive e (drop i s) q ≡ (reads 0 e q (getD s i 0) && reaches 0 e q (alive e (drop (suc i) s)))
+alive-at e s i q h = rw (drop-cons s i 0 (omega arith), drop-cons s (suc i) 0 h) (alive-more e (getD s i 0) (getD s (suc i) 0) (drop (suc (suc i)) s) q)
+
+pub ended-at : (s : List ℕ) (i : ℕ) → i < length s → ended (drop i s) ≡ false
+ended-at s i h = rw (drop-cons s i 0 h)
 
 -- the text s can be read from o to the end
 abbrev pub Finishes : Re → Out → List ℕ → Type 0

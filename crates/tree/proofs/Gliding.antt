@@ -15,7 +15,7 @@ use Rattle.positions.specs.Runs.{Run, rowOf, outOf, otherOf, resumeRun}
 use Rattle.positions.specs.RunWays.{resume-run-room}
 use Rattle.positions.specs.Sets.{follows, Meet, meet, reaches-meet}
 use Rattle.positions.specs.Tests.{reads, reaches}
-use Rattle.positions.specs.Truth.{both}
+use Rattle.bits.specs.Truth.{both}
 use Rattle.sets.specs.declared.set.Set.{Set}
 use Rattle.sets.specs.Members.{has, limit, row}
 use Rattle.walks.specs.declared.step.Step.the-variants.{Stopped}
