@@ -24,7 +24,7 @@ use Rattle.sets.specs.Members.{row, rows}
 use Rattle.walks.specs.Root.{Root, Tabled}
 use Rattle.tree.specs.declared.search.Found.{Found}
 use Rattle.tree.specs.Judge.{Given, Judgeable, SoughtAs, Finds}
-use Rattle.tree.specs.Walk.{Charted}
+use Rattle.along.specs.Walk.{Charted}
 
 -- the elements of a slice of bytes
 pub bytes-fit : (l : List ℕ) → ((i : ℕ) → Fits w8 (getD l i 0)) → Bytes l

@@ -25,12 +25,12 @@ use Rattle.sets.specs.Members.{has, row, meets}
 use Rattle.walks.specs.Enter.{openTo}
 use Rattle.walks.proofs.Looks.{open-is}
 use Rattle.tree.specs.declared.search.Found.the-variants as found-as
-use Rattle.tree.specs.declared.walk.Walked.{Walked}
+use Rattle.along.specs.declared.walk.Walked.{Walked}
 use Rattle.tree.specs.Judge.{Judgeable, Measures, SoughtAs}
 use Rattle.tree.specs.Search as search
 use Rattle.tree.specs.Search.{Sought, kept}
-use Rattle.tree.specs.Walk.{Charted, Walkable}
-use Rattle.tree.proofs.Advance.{ended-zero}
+use Rattle.along.specs.Walk.{Charted, Walkable}
+use Rattle.along.proofs.Advance.{ended-zero}
 
 -- a room that holds the row, and one that does not
 pub kept-whole : (row t : List ℕ) → length row ≤ length t → sets t 0 row ≡ kept row t

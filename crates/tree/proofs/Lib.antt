@@ -3,13 +3,6 @@ pub mod Counts
 pub mod Answers
 pub mod Settled
 pub mod Meaning
-pub mod Standing
-pub mod Copying
-pub mod Along
-pub mod Linking
-pub mod Coming
-pub mod Gliding
-pub mod Advance
 pub mod Judging
 pub mod Finding
 pub mod Searching

@@ -19,7 +19,7 @@ use Rattle.passes.specs.Tables.{Tables}
 use Rattle.sets.specs.declared.set.Set.{Set}
 use Rattle.sets.specs.Members.{has, row, rows}
 use Rattle.tree.specs.declared.search.Found.{Found}
-use Rattle.tree.specs.declared.walk.Walked.{Walked}
+use Rattle.along.specs.declared.walk.Walked.{Walked}
 use Rattle.tree.specs.Search.{Sought, number-of, value-of, flag-of}
 
 -- the read pattern holds e, which is within the limits, has k marks, and whose n positions have these classes

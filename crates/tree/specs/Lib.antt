@@ -2,10 +2,5 @@
 pub mod Turns
 pub mod Outcome
 pub mod Search
-pub mod Rows
-pub mod Links
-pub mod Along
-pub mod Glide
-pub mod Walk
 pub mod Judge
 pub mod Lending

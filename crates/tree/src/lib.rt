@@ -1,8 +1,5 @@
 // The first tree of a text, and how often a mark is opened in a row.
 pub mod first_tree;
-pub mod glide;
-pub mod links;
 pub mod room;
 pub mod search;
 pub mod turns;
-pub mod walk;

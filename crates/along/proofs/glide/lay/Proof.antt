@@ -1,0 +1,33 @@
+-- `along::glide::lay` meets its contract. Assumes nothing.
+use native.Mathlib.Omega.{arith}
+use borrow.Author.Tests.{leb-true}
+use Rattle.along.proofs.Copying.{laid-spare}
+use borrow.Author.Needs.{needs}
+use Rattle.along.proofs.glide.lay.Statement.{statement}
+use Rattle.along.proofs.glide.lay.Tie as tie
+
+add-if3 : tie.Need-add-if3
+add-if3 c = search needs
+
+eight-requires : tie.Need-eight-requires
+eight-requires c κs = omega (arith, leb-true, c .before .before .before .before .before .pre)
+
+copy-requires : tie.Need-copy-requires
+copy-requires c κs = search needs
+
+same-length : tie.Need-same-length
+same-length c = search needs
+
+returns : tie.Need-returns
+returns c = laid-spare 8 (c .before .before .eight .ensures) (omega (arith, leb-true)) (omega (arith, leb-true))
+
+same-length-2 : tie.Need-same-length-2
+same-length-2 c = search needs
+
+returns-2 : tie.Need-returns-2
+returns-2 c = laid-spare (c .before .before .before .before .before .before .args .long) (c .before .before .copy .ensures) (omega arith) (omega arith)
+
+pub lay-spec : {M : Type 1} → statement M
+lay-spec =
+    tie.close
+    (tie.spec add-if3 eight-requires copy-requires same-length returns same-length-2 returns-2)
