@@ -23,7 +23,8 @@ use Rattle.walks.specs.Steps.{cursor, stepOf}
 use Rattle.along.specs.declared.glide.Stand.{Stand}
 use Rattle.along.specs.Along.{Along, Came}
 use Rattle.along.specs.Glide.{Guided, Recalled, Recalls, stood}
-use Rattle.along.specs.Links.{flag, LinkAt, PlaceOf, Kept}
+use Rattle.walks.specs.Tables.{flag}
+use Rattle.along.specs.Links.{LinkAt, PlaceOf, Kept}
 use Rattle.along.proofs.Along.{along-more, along-few}
 use Rattle.along.proofs.Coming.{along-room}
 use Rattle.along.proofs.Linking.{kept-link, kept-on}

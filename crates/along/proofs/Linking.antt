@@ -21,7 +21,8 @@ use Rattle.walks.specs.declared.step.Step.{Step}
 use Rattle.walks.specs.declared.step.Step.the-variants.{Passed, Stopped}
 use Rattle.walks.specs.Steps.{cursor, Wrote}
 use Rattle.walks.proofs.Written.{wrote-cursor}
-use Rattle.along.specs.Links.{flag, Link, LinkAt, four, PlaceOf, Kept, Keeps}
+use Rattle.walks.specs.Tables.{flag}
+use Rattle.along.specs.Links.{Link, LinkAt, four, PlaceOf, Kept, Keeps}
 use Rattle.along.specs.Rows.{Below}
 use Rattle.along.proofs.Along.{apart}
 use Rattle.along.proofs.Standing.{written-below, written-shows, shows-still}

@@ -1,7 +1,7 @@
 -- Links: of the rows of marks between two letters, those that a walk has written once are copied when it comes by again. For each position
 -- there are four places to keep one. Assumes nothing: these are definitions.
 use mathlib.Core.Path.{_≡_}
-use mathlib.Core.Bool.{Bool, true, false, cond}
+use mathlib.Core.Bool.{Bool, true, false}
 use mathlib.Core.List.{List}
 use Prim.Native.Nat.{ℕ, _+_, _*_, _-_, _≤_, _<_}
 use lib.ListN.{length, getD, set}
@@ -15,11 +15,9 @@ use Rattle.sets.specs.Members.{has, limit, row, rows, Stored}
 use Rattle.walks.specs.declared.step.Step.{Step}
 use Rattle.walks.specs.declared.step.Step.the-variants.{Passed, Stopped}
 use Rattle.walks.specs.Resume.{Placed}
+use Rattle.walks.specs.Tables.{flag}
 use Rattle.walks.specs.Steps.{cursor, Wrote}
 use Rattle.along.specs.Rows.{Shows}
-
-abbrev pub flag : Bool → ℕ
-flag b = cond b 1 0
 
 -- the run R ends before position `to`; its `long` tokens stand in t from `from` on, before c; `other` tells its other way
 pub record Link (R : Run) (t : List ℕ) (c to from long other : ℕ) : Type 0 where
