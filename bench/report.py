@@ -8,6 +8,7 @@
 import math
 import sys
 from html import escape
+from pathlib import Path
 
 PEERS = ["re2", "pcre2", "tre"]
 TITLE = {"ours": "Dimmhalt", "re2": "RE2", "pcre2": "PCRE2 JIT", "tre": "TRE", "verdict": "Dimmhalt verdict", "re2-yes-no": "RE2 yes or no"}
@@ -166,7 +167,8 @@ def markdown(r):
             print("| " + " | ".join(x) + " |")
         for n in notes:
             print(f"\n{n}")
-    print("\n![Time of a call for each work](../bench/works.svg)\n\n![Growth with the text and with the pattern](../bench/growth.svg)")
+    print("\n![Time of a call for each work](../bench/works.svg)\n\n![Growth with the text and with the pattern](../bench/growth.svg)\n")
+    print(Path(__file__).with_name("notes.md").read_text(encoding="utf-8"), end="")
 
 
 # ---- plots
