@@ -1,44 +1,31 @@
 -- Rows that stand in the room for a tree, and what writing and copying leave of it. Assumes nothing.
 use mathlib.Core.Path.{_≡_, refl, sym, ap, _∙_}
 use mathlib.Core.Bool.{Bool, true, false}
-use mathlib.Core.List.{List, [], _∷_, _++_}
-use Prim.Native.Nat.{ℕ, zero, suc, _+_, _-_, _≤_, _<_}
-use native.Mathlib.Nat.{add-zero, add-suc, suc-add, zero-add}
+use mathlib.Core.List.{List, _++_}
+use Prim.Native.Nat.{ℕ, _+_, _-_, _≤_, _<_}
+use native.Mathlib.Nat.{zero-add}
 use native.Mathlib.Omega.{arith}
 use borrow.Author.Tests.{ltb-true, ltb-false}
 use lib.Dec.{ltb}
-use lib.ListN.{length, getD, set, length-set, length-append, List·getD-append}
-use lib.Seq.{sets, length-sets, getD-set-same, getD-set-other, getD-append-add, ext-getD}
+use lib.ListN.{length, getD, length-append, List·getD-append}
+use lib.Seq.{sets, length-sets, getD-append-add, ext-getD}
+use Rattle.laws.specs.Writing.{sets-before, sets-inside, sets-behind}
 use Rattle.along.specs.Rows.{Shows, Below, Beyond}
 
 -- ---- a row that is written
-
-before : (r t : List ℕ) (a j : ℕ) → j < a → getD (sets t a r) j 0 ≡ getD t j 0
-before [] t a j h = refl
-before (v ∷ r) t a j h = before r (set t a v) (suc a) j (omega arith) ∙ getD-set-other t a j v 0 (λ z. omega arith)
-
-inside : (r t : List ℕ) (a i : ℕ) → i < length r → a + i < length t → getD (sets t a r) (a + i) 0 ≡ getD r i 0
-inside [] t a i h l = absurd (omega arith)
-inside (v ∷ r) t a zero h l =
-    rw (add-zero a) (before r (set t a v) (suc a) a (omega arith) ∙ getD-set-same t a v 0 (omega arith))
-inside (v ∷ r) t a (suc i) h l = rw (add-suc a i, ← suc-add a i) (inside r (set t a v) (suc a) i (omega arith) (omega (arith, length-set t a v)))
-
-behind : (r t : List ℕ) (a j : ℕ) → a + length r ≤ j → getD (sets t a r) j 0 ≡ getD t j 0
-behind [] t a j h = refl
-behind (v ∷ r) t a j h = behind r (set t a v) (suc a) j (omega arith) ∙ getD-set-other t a j v 0 (λ z. omega arith)
 
 module _ {t′ : List ℕ} (t r : List ℕ) (a : ℕ) (z : t′ ≡ sets t a r) where
   written-length : length t′ ≡ length t
   written-length = ap length z ∙ length-sets t a r
 
   pub written-below : Below t t′ a
-  written-below = record { same-length = written-length; same = λ i h. ap (λ (x : List ℕ). getD x i 0) z ∙ before r t a i h }
+  written-below = record { same-length = written-length; same = λ i h. ap (λ (x : List ℕ). getD x i 0) z ∙ sets-before t a r i h }
 
   pub written-shows : Shows t′ a r
-  written-shows i h l = ap (λ (x : List ℕ). getD x (a + i) 0) z ∙ inside r t a i h (omega (arith, written-length))
+  written-shows i h l = ap (λ (x : List ℕ). getD x (a + i) 0) z ∙ sets-inside t a r i h (omega (arith, written-length))
 
   pub written-beyond : Beyond t t′ (a + length r)
-  written-beyond = record { same-length = written-length; same = λ i h. ap (λ (x : List ℕ). getD x i 0) z ∙ behind r t a i h }
+  written-beyond = record { same-length = written-length; same = λ i h. ap (λ (x : List ℕ). getD x i 0) z ∙ sets-behind t a r i h }
 
 -- ---- what stays
 
@@ -88,7 +75,7 @@ shows-whole t₀ t r S B = ext-getD 0 t (sets t₀ 0 r) (B .same-length ∙ sym 
   where
     first : (i : ℕ) → i < length t → i < length r → getD t i 0 ≡ getD (sets t₀ 0 r) i 0
     first i h k =
-        ap (λ (x : ℕ). getD t x 0) (sym (zero-add i)) ∙ S i k (omega arith) ∙ sym (inside r t₀ 0 i k (omega (arith, B .same-length))) ∙ ap (λ (x : ℕ). getD (sets t₀ 0 r) x 0) (zero-add i)
+        ap (λ (x : ℕ). getD t x 0) (sym (zero-add i)) ∙ S i k (omega arith) ∙ sym (sets-inside t₀ 0 r i k (omega (arith, B .same-length))) ∙ ap (λ (x : ℕ). getD (sets t₀ 0 r) x 0) (zero-add i)
 
     second : (i : ℕ) → length r ≤ i → getD t i 0 ≡ getD (sets t₀ 0 r) i 0
-    second i k = B .same i k ∙ sym (behind r t₀ 0 i (omega arith))
+    second i k = B .same i k ∙ sym (sets-behind t₀ 0 r i (omega arith))

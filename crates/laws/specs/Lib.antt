@@ -5,3 +5,4 @@ pub mod Holds
 pub mod Promises
 pub mod Readings
 pub mod Room
+pub mod Writing

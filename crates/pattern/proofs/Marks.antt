@@ -10,7 +10,8 @@ use Rattle.meaning.specs.Expression.{Re, eps, pos, cat, alt, branch, star, plus
 use Rattle.meaning.specs.ReadPattern.{nodes, kinds, node-of, args}
 use Rattle.laws.specs.Holds.{stands-left, nodes-some, kinds-length, args-length}
 use Rattle.pattern.specs.Stores.{bare-args, Lies, Numberable, Numbered, Numbers}
-use Rattle.pattern.proofs.Rows.{writes, sets-behind, sets-comm, stands-end, stands-behind, sets-same, length-bare-args}
+use Rattle.laws.specs.Writing.{sets-behind}
+use Rattle.pattern.proofs.Rows.{writes, sets-comm, stands-end, stands-behind, sets-same, length-bare-args}
 use Rattle.pattern.proofs.Written.{Over, Both, over-branch, over-star, over-plus, over-opt, both-cat, both-alt}
 
 -- ---- a node has no part, two, or one and a mark

@@ -1,34 +1,19 @@
 -- Rows written one behind the other, and how long the rows of an expression are. Assumes nothing.
 use mathlib.Core.Path.{_≡_, refl, sym, _∙_, ap, ap₂}
 use mathlib.Core.List.{List, [], _∷_, _++_}
-use Prim.Native.Nat.{ℕ, zero, suc, _+_, _*_, _≤_, _<_}
+use Prim.Native.Nat.{ℕ, suc, _+_, _*_, _≤_}
 use native.Mathlib.Omega.{arith}
-use native.Mathlib.Nat.{add-zero}
-use lib.ListN.{length, getD, set, length-append, length-set}
-use lib.Seq.{sets, length-sets, set-comm, set-getD, getD-set-same, getD-set-other}
+use lib.ListN.{length, getD, set, length-append}
+use lib.Seq.{sets, length-sets, set-comm, set-getD}
 use Rattle.meaning.specs.Expression.{Re, eps, pos, cat, alt, branch, star, plus, opt, size}
 use Rattle.meaning.specs.ReadPattern.{nodes, words}
+use Rattle.laws.specs.Writing.{sets-then, sets-inside}
 use Rattle.laws.specs.Holds.{Stands, stands-left, stands-right, stands-last, stands-at}
 use Rattle.pattern.specs.Stores.{bare-args}
-
-sets-then : (t : List ℕ) (a : ℕ) (r s : List ℕ) → sets (sets t a r) (a + length r) s ≡ sets t a (r ++ s)
-sets-then t a [] s = ap (λ (k : ℕ). sets t k s) (add-zero a)
-sets-then t a (v ∷ r) s =
-    let e : a + suc (length r) ≡ suc a + length r = omega arith in
-    ap (λ (k : ℕ). sets (sets (set t a v) (suc a) r) k s) e ∙ sets-then (set t a v) (suc a) r s
 
 -- r is written at a, and s behind it
 pub writes : {t₁ t₂ : List ℕ} {b : ℕ} (t : List ℕ) (a : ℕ) (r s : List ℕ) → t₁ ≡ sets t a r → t₂ ≡ sets t₁ b s → b ≡ a + length r → t₂ ≡ sets t a (r ++ s)
 writes t a r s p q e = q ∙ ap₂ (λ (l : List ℕ) (k : ℕ). sets l k s) p e ∙ sets-then t a r s
-
--- what is not written over
-pub sets-before : (t : List ℕ) (a : ℕ) (r : List ℕ) (i : ℕ) → i < a → getD (sets t a r) i 0 ≡ getD t i 0
-sets-before t a [] i h = refl
-sets-before t a (v ∷ r) i h = sets-before (set t a v) (suc a) r i (omega arith) ∙ getD-set-other t a i v 0 (λ e. omega arith)
-
-pub sets-behind : (t : List ℕ) (a : ℕ) (r : List ℕ) (i : ℕ) → a + length r ≤ i → getD (sets t a r) i 0 ≡ getD t i 0
-sets-behind t a [] i h = refl
-sets-behind t a (v ∷ r) i h = sets-behind (set t a v) (suc a) r i (omega arith) ∙ getD-set-other t a i v 0 (λ e. omega arith)
 
 -- one more store, behind the row, before or after it
 pub sets-comm : (t : List ℕ) (a : ℕ) (r : List ℕ) (i v : ℕ) → a + length r ≤ i → sets (set t i v) a r ≡ set (sets t a r) i v
@@ -54,14 +39,7 @@ sets-same {t} {u} (v ∷ l) h =
 
 -- what was written stands there, where there is room
 pub sets-stands : (t : List ℕ) (u : ℕ) (l : List ℕ) → u + length l ≤ length t → Stands l (sets t u l) u
-sets-stands t u l h = record { within = simp length-sets h; here = go t u l h }
-  where
-    go : (t : List ℕ) (u : ℕ) (l : List ℕ) → u + length l ≤ length t → (j : ℕ) → j < length l → getD (sets t u l) (u + j) 0 ≡ getD l j 0
-    go t u [] h j g = absurd (omega arith)
-    go t u (v ∷ l) h zero g = rw (add-zero u) (sets-before (set t u v) (suc u) l u (omega arith) ∙ getD-set-same t u v 0 (omega arith))
-    go t u (v ∷ l) h (suc j) g =
-        let e : u + suc j ≡ suc u + j = omega arith in
-        rw e (go (set t u v) (suc u) l (simp length-set (omega arith)) j (omega arith))
+sets-stands t u l h = record { within = simp length-sets h; here = λ j g. sets-inside t u l j g (omega arith) }
 
 -- ---- how long the rows of an expression are
 

@@ -1,21 +1,17 @@
 -- Runs one after another: what they write and how they end. Assumes nothing.
 use mathlib.Core.Path.{_≡_, refl, ap, _∙_, subst}
 use mathlib.Core.Bool.{Bool, true, false, _||_, or-false}
-use mathlib.Core.List.{List, [], _∷_, _++_}
-use Prim.Native.Nat.{ℕ, suc, _+_}
+use mathlib.Core.List.{List, [], _∷_}
+use Prim.Native.Nat.{ℕ, _+_}
 use native.Mathlib.Nat.{add-zero, add-suc, suc-add, add-assoc}
 use native.Mathlib.Numerals.{add-one}
 use lib.ListN.{length, set, length-append}
-use lib.Seq.{sets}
+use Rattle.laws.specs.Writing.{sets-then}
 use Rattle.positions.specs.Positions.{Out, pass, at}
 use Rattle.positions.specs.Runs.{Run, run, rowOf, outOf, otherOf, andThen, put, also}
 use Rattle.walks.specs.declared.step.Step.{Step}
 use Rattle.walks.specs.declared.step.Step.the-variants.{Passed, Stopped}
 use Rattle.walks.specs.Steps.{cursor, noted, stepOf, Wrote, After}
-
-pub sets-append : (r s t : List ℕ) (a : ℕ) → sets (sets t a r) (a + length r) s ≡ sets t a (r ++ s)
-sets-append [] s t a = rw (add-zero a)
-sets-append (v ∷ r) s t a = rw (add-suc a (length r), ← suc-add a (length r)) (sets-append r s (set t a v) (suc a))
 
 -- the cursor is past the row
 step-cursor : (o : Out) (c : ℕ) (w : Bool) → cursor (stepOf o c w) ≡ c
@@ -48,7 +44,7 @@ pub wrote-then : {t t₁ t₂ : List ℕ} {from : ℕ} {s r : Step} (R S : Run) 
 wrote-then {t} {t₁} {t₂} {from} {s} {r} (run ρ pass w) (run σ o v) h f =
     let g : After (Passed (from + length ρ) w) t₁ t₂ r (run σ o v) = subst (λ (s : Step). After s t₁ t₂ r (run σ o v)) (h .step) f in
     record {
-      row = g .row ∙ rw (h .row) (sets-append ρ σ t from);
+      row = g .row ∙ rw (h .row) (sets-then t from ρ σ);
       step = g .step ∙ rw (length-append ρ σ, add-assoc from (length ρ) (length σ));
     }
 wrote-then {t} {t₁} {t₂} {from} {s} {r} (run ρ (at q) w) S h f =
