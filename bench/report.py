@@ -26,8 +26,11 @@ class Results:
             elif f[0] == "about":
                 self.about[f[1]] = {"name": f[2], "says": f[3], "flag": f[4]}
             elif f[0] in ("work", "verdict", "text", "pattern"):
-                ns = None if f[5] == "-" else float(f[5])
-                self.lines.append({"kind": f[0], "work": f[1], "pattern": int(f[2]), "text": int(f[3]), "engine": f[4], "ns": ns, "wrong": f[9]})
+                ns, least, most = (None if x == "-" else float(x) for x in f[5:8])
+                size = {"pattern": int(f[2]), "text": int(f[3])}
+                self.lines.append({"kind": f[0], "work": f[1], **size, "engine": f[4], "ns": ns, "least": least, "most": most, "wrong": f[9]})
+        # the longest of the growing texts is measured with the works, before the others
+        self.lines.sort(key=lambda x: x["text"] if x["kind"] == "text" else 0)
 
     def of(self, kind, **want):
         return [x for x in self.lines if x["kind"] == kind and all(x[k] == v for k, v in want.items())]
@@ -52,6 +55,10 @@ def cost(x, per=None):
     return x["wrong"] if x["ns"] is None else number(x["ns"] / (per or 1))
 
 
+def spread(x):
+    return x["wrong"] if x["ns"] is None else f"{number(x['ns'])} ({number(x['least'])} to {number(x['most'])})"
+
+
 def ratio(peer, ours):
     if peer["ns"] is None:
         return peer["wrong"]
@@ -64,7 +71,7 @@ def work_tables(r):
     for w in r.values("work", "work"):
         got = {e: r.one("work", work=w, engine=e) for e in ["ours"] + PEERS}
         start = [f"{w} {r.about[w]['name']}", f"{got['ours']['text']:,}"]
-        times.append(start + [cost(got[e]) for e in got])
+        times.append(start + [spread(got[e]) for e in got])
         each.append(start + [cost(got[e], got[e]["text"]) for e in got])
         ratios.append(start + [ratio(got[p], got["ours"]) for p in PEERS])
     means = []
@@ -74,8 +81,8 @@ def work_tables(r):
         means.append(f"{math.exp(sum(logs) / len(logs)):.2f}" if logs else "-")
     ratios.append(["geometric mean", ""] + means)
     engines = [TITLE[e] for e in ["ours"] + PEERS]
-    yield "Time of a call, ns", head + engines, times, []
-    yield "The same for a byte of the text, ns", head + engines, each, []
+    yield "Time of a call, ns: median (least to most)", head + engines, times, []
+    yield "The same for a byte of the text, ns: median", head + engines, each, []
     yield "Ratio: the peer's time divided by ours; above 1 we are faster", head + engines[1:], ratios, []
 
 
@@ -83,10 +90,10 @@ def verdict_table(r):
     rows = []
     for w in r.values("verdict", "work"):
         ours, peer = (r.one("verdict", work=w, engine=e) for e in ("verdict", "re2-yes-no"))
-        times = [cost(ours), cost(ours, ours["text"]), cost(peer), cost(peer, peer["text"])]
-        rows.append([f"{w} {r.about[w]['name']}", f"{peer['text']:,}"] + times + [ratio(peer, ours)])
-    head = ["work", "bytes", "Dimmhalt verdict, ns", "ns/byte", "RE2 yes or no, ns", "ns/byte", "ratio"]
-    yield "The scheduler's call (none, one or more trees) beside RE2's yes or no without captures", head, rows, []
+        tree = r.one("work", work=w, engine="ours")
+        rows.append([f"{w} {r.about[w]['name']}", f"{peer['text']:,}", spread(ours), cost(ours, ours["text"]), spread(peer), ratio(peer, ours), ratio(tree, ours)])
+    head = ["work", "bytes", "Dimmhalt verdict, ns", "ns/byte", "RE2 yes or no, ns", "ratio to RE2", "ratio to the whole tree"]
+    yield "The scheduler's call (none, one or more trees) beside RE2's yes or no without captures, and beside our own call for the whole tree", head, rows, []
 
 
 def growth_tables(r):
