@@ -1,12 +1,15 @@
 -- `walks::resume::resume`, `walks::resume::resume_pair`: the contracts are met, since the node number falls. Assumes nothing.
 use mathlib.Core.Path.{_∙_}
-use Prim.Native.Nat.{_+_, _*_}
+use Prim.Native.Nat.{_+_, _-_, _*_}
 use native.Mathlib.Omega.{arith}
 use denote.Ref.{now}
-use Rattle.walks.specs.Tables.{EndAt}
+use Rattle.walks.specs.Tables.{Known, number, EndAt}
+use Rattle.walks.specs.Enter.{Scanned}
+use Rattle.walks.specs.Resume.{Placed}
 use Rattle.walks.proofs.Parts.{above}
 use Rattle.walks.proofs.Looks.{scanned-to}
-use Rattle.walks.proofs.Resuming.{end-read, placed-mark, placed-part, placed-close, placed-again, placed-below, placed-left, placed-right, placed-on, resumes-leaf, resumes-again, resumes-close, resumes-right, resumes-left, resumes-cat}
+use Rattle.walks.proofs.Resuming.{end-read, placed-mark, placed-part, placed-close, placed-again, placed-below, placed-left, placed-right, placed-on}
+use Rattle.walks.proofs.Resuming.{resumes-leaf, resumes-again, resumes-close, resumes-right, resumes-left, resumes-cat}
 use Prim.Native.Nat.{ℕ, _<_}
 use borrow.Fn.Kinds.{In}
 use borrow.Fn.PlainCycle.{Measures, is, falls, and}
@@ -45,20 +48,76 @@ abbrev resume-pair-below : ℕ → In 2 resume-pair-kinds.ps
 resume-pair-below t = and 2 resume-pair-kinds.ps (falls 2 resume-pair-kinds.ps _<_ μ-resume-pair t) resume-pair.Pre
 
 abbrev resume-claims : ℕ → resume-lts.Claims
-resume-claims t = (resume-pair-below t, resume-pair.Post, turns-again-reads.Asked, turns-again-reads.Learnt, goes-or-reads.Asked, goes-or-reads.Learnt, resume-below t, resume.Post, again-reads.Asked, again-reads.Learnt, close-reads.Asked, close-reads.Learnt)
+resume-claims t = (
+  resume-pair-below t,
+  resume-pair.Post,
+  turns-again-reads.Asked,
+  turns-again-reads.Learnt,
+  goes-or-reads.Asked,
+  goes-or-reads.Learnt,
+  resume-below t,
+  resume.Post,
+  again-reads.Asked,
+  again-reads.Learnt,
+  close-reads.Asked,
+  close-reads.Learnt,
+)
 
 abbrev resume-pair-claims : ℕ → resume-pair-lts.Claims
 resume-pair-claims t = (wide-reads.Asked, wide-reads.Learnt, resume-below t, resume.Post, open-to-reads.Asked, open-to-reads.Learnt, on-reads.Asked, on-reads.Learnt)
 
 module _ (t : ℕ) where
   -- where the positions of the left part end
-  ends : (c : resume-pair-lts.After-wide2 (resume-pair-claims t) (resume-pair-at t) resume-pair.Post) → EndAt (now (c .before .before .before .before .before .before .args .kind)) (now (c .before .before .before .before .before .before .args .arg)) (c .before .before .wide .result) (c .wide2 .result)
+  ends : (c : resume-pair-lts.After-wide2 (resume-pair-claims t) (resume-pair-at t) resume-pair.Post)
+      → let read = c .before .before in
+      let args = read .before .before .before .before .args in
+      EndAt (now (args .kind)) (now (args .arg)) (read .wide .result) (c .wide2 .result)
   ends c =
       let read = c .before .before in
       let entry = read .before .before .before .before in
       let kinds = entry .pre .1 .1 .1 .1 in
       let below = placed-below (entry .pre .1 .0) (kinds .0) (kinds .1) (read .wide .ensures) .0 in
       end-read (now (entry .args .upto)) (entry .pre .1 .1 .1 .0) below (c .wide2 .ensures)
+
+  -- what the walk on in the part of a node with one part asks
+  resume-part : (c : resume-lts.Else2 (resume-claims t) (resume-at t) resume.Post)
+      → let args = c .before .before .before .before .args in
+      (2 * (args .i - 1) + 1 < t)
+      × (Placed (now (args .kind)) (now (args .arg)) (args .i - 1) (args .j) (args .at)
+      × (Scanned (now (args .kind)) (now (args .arg)) (now (args .null)) (now (args .first)) (args .i - 1)
+      × Known number (EndAt (now (args .kind)) (now (args .arg))) (now (args .upto)) (args .i - 1)))
+  resume-part c =
+      let inner = c .before in
+      let entry = inner .before .before .before in
+      let placed = entry .pre .1 .0 in
+      let tables = entry .pre .1 .1 in (
+        omega (arith, entry .pre .0, above (inner .if1 .left) (placed .holds)),
+        (placed-part placed (c .if2 .left), (scanned-to (tables .0) (omega arith), λ n h. tables .1 n (omega arith))),
+      )
+
+  -- what the walk on in the left part asks
+  resume-pair-left : (c : resume-pair-lts.Else1 (resume-pair-claims t) (resume-pair-at t) resume-pair.Post)
+      → let read = c .before .before .before in
+      let args = read .before .before .before .before .args in
+      let left = read .wide .result in
+      (2 * left + 1 < t)
+      × (Placed (now (args .kind)) (now (args .arg)) left (args .j) (args .at)
+      × (Scanned (now (args .kind)) (now (args .arg)) (now (args .null)) (now (args .first)) left
+      × Known number (EndAt (now (args .kind)) (now (args .arg))) (now (args .upto)) left))
+  resume-pair-left c =
+      let ended = c .before in
+      let read = ended .before .before in
+      let entry = read .before .before .before .before in
+      let placed = entry .pre .1 .0 in
+      let tables = entry .pre .1 .1 in
+      let kinds = tables .1 .1 in
+      let below = placed-below placed (kinds .0) (kinds .1) (read .wide .ensures) .0 in (
+        omega (arith, entry .pre .0, below),
+        (
+          placed-left placed (ends ended) (kinds .0) (kinds .1) (read .wide .ensures) (c .if1 .left),
+          (scanned-to (tables .0) (omega arith), λ n h. tables .1 .0 n (omega arith)),
+        ),
+      )
 
   resume-element-copy-out-k : resume-lts.Need-element-copy-out-k (resume-claims t) (resume-at t) resume.Post
   resume-element-copy-out-k c = c .before .pre .1 .0 .within
@@ -96,15 +155,7 @@ module _ (t : ℕ) where
   resume-goes-or-requires c κs = let s = c .before .before .before .before .before .before .before .pre .1 in omega (arith, s .0 .within, s .1 .0 .long)
 
   resume-resume-requires : resume-lts.Need-resume-requires (resume-claims t) (resume-at t) resume.Post
-  resume-resume-requires c κs =
-      let one = c .before .before .before .before .before in
-      let inner = one .before in
-      let entry = inner .before .before .before in
-      let placed = entry .pre .1 .0 in
-      let tables = entry .pre .1 .1 in (
-        omega (arith, entry .pre .0, above (inner .if1 .left) (placed .holds)),
-        (placed-part placed (one .if2 .left), (scanned-to (tables .0) (omega arith), λ n h. tables .1 n (omega arith))),
-      )
+  resume-resume-requires c κs = resume-part (c .before .before .before .before .before)
 
   resume-again-requires : resume-lts.Need-again-requires (resume-claims t) (resume-at t) resume.Post
   resume-again-requires c κs =
@@ -141,15 +192,7 @@ module _ (t : ℕ) where
       (turned .again .ensures)
 
   resume-resume-requires-2 : resume-lts.Need-resume-requires-2 (resume-claims t) (resume-at t) resume.Post
-  resume-resume-requires-2 c κs =
-      let one = c .before .before .before .before in
-      let inner = one .before in
-      let entry = inner .before .before .before in
-      let placed = entry .pre .1 .0 in
-      let tables = entry .pre .1 .1 in (
-        omega (arith, entry .pre .0, above (inner .if1 .left) (placed .holds)),
-        (placed-part placed (one .if2 .left), (scanned-to (tables .0) (omega arith), λ n h. tables .1 n (omega arith))),
-      )
+  resume-resume-requires-2 c κs = resume-part (c .before .before .before .before)
 
   resume-close-requires : resume-lts.Need-close-requires (resume-claims t) (resume-at t) resume.Post
   resume-close-requires c κs =
@@ -233,21 +276,7 @@ module _ (t : ℕ) where
       resumes-right _ _ (ends ended) (kinds .0) (kinds .1) (read .wide .ensures) (right .if1 .taken) (resumed .resume .ensures)
 
   resume-pair-resume-requires-2 : resume-pair-lts.Need-resume-requires-2 (resume-pair-claims t) (resume-pair-at t) resume-pair.Post
-  resume-pair-resume-requires-2 c κs =
-      let left = c .before .before in
-      let ended = left .before in
-      let read = ended .before .before in
-      let entry = read .before .before .before .before in
-      let placed = entry .pre .1 .0 in
-      let tables = entry .pre .1 .1 in
-      let kinds = tables .1 .1 in
-      let below = placed-below placed (kinds .0) (kinds .1) (read .wide .ensures) .0 in (
-        omega (arith, entry .pre .0, below),
-        (
-          placed-left placed (ends ended) (kinds .0) (kinds .1) (read .wide .ensures) (left .if1 .left),
-          (scanned-to (tables .0) (omega arith), λ n h. tables .1 .0 n (omega arith)),
-        ),
-      )
+  resume-pair-resume-requires-2 c κs = resume-pair-left (c .before .before)
 
   resume-pair-same-length-2 : resume-pair-lts.Need-same-length-2 (resume-pair-claims t) (resume-pair-at t) resume-pair.Post
   resume-pair-same-length-2 c = c .before .before .resume2 .kept .1 .1 .1 .1 .1 .1 .1 .1 .1 .0
@@ -274,21 +303,7 @@ module _ (t : ℕ) where
   resume-pair-open-to-requires c κs = let s = c .before .before .before .before .before .before .before .before .pre .1 in (omega (arith, s .0 .within, s .1 .0 .long), omega (arith, s .0 .within))
 
   resume-pair-resume-requires-3 : resume-pair-lts.Need-resume-requires-3 (resume-pair-claims t) (resume-pair-at t) resume-pair.Post
-  resume-pair-resume-requires-3 c κs =
-      let left = c .before .before .before in
-      let ended = left .before in
-      let read = ended .before .before in
-      let entry = read .before .before .before .before in
-      let placed = entry .pre .1 .0 in
-      let tables = entry .pre .1 .1 in
-      let kinds = tables .1 .1 in
-      let below = placed-below placed (kinds .0) (kinds .1) (read .wide .ensures) .0 in (
-        omega (arith, entry .pre .0, below),
-        (
-          placed-left placed (ends ended) (kinds .0) (kinds .1) (read .wide .ensures) (left .if1 .left),
-          (scanned-to (tables .0) (omega arith), λ n h. tables .1 .0 n (omega arith)),
-        ),
-      )
+  resume-pair-resume-requires-3 c κs = resume-pair-left (c .before .before .before)
 
   resume-pair-on-requires : resume-pair-lts.Need-on-requires (resume-pair-claims t) (resume-pair-at t) resume-pair.Post
   resume-pair-on-requires c κs =
