@@ -1,11 +1,14 @@
 -- `walks::enter::enter`, `walks::enter::enter_pair`, `walks::enter::on`, `walks::enter::turn`: the contracts are met, since the node number falls. Assumes nothing.
-use mathlib.Core.Path.{refl, ap, _∙_}
-use Prim.Native.Nat.{_+_, _*_}
+use mathlib.Core.Path.{_≡_, refl, ap, _∙_}
+use Prim.Native.Nat.{_+_, _-_, _*_}
 use native.Mathlib.Omega.{arith}
+use denote.Ref.{now}
 use Rattle.walks.specs.Steps.{cursor}
+use Rattle.walks.specs.Enter.{Ready, Scanned}
 use Rattle.walks.proofs.Parts.{above}
 use Rattle.walks.proofs.Looks.{scanned-to}
-use Rattle.walks.proofs.Entering.{ready-mark, ready-put, ready-part, ready-close, ready-left, ready-alt, ready-on, enters-eps, enters-pos, enters-loop, enters-turn, enters-cat, enters-left, enters-right, turns-in, turns-none, on-passed, on-stopped}
+use Rattle.walks.proofs.Entering.{ready-mark, ready-put, ready-part, ready-close, ready-left, ready-alt, ready-on}
+use Rattle.walks.proofs.Entering.{enters-eps, enters-pos, enters-loop, enters-turn, enters-cat, enters-left, enters-right, turns-in, turns-none, on-passed, on-stopped}
 use Prim.Native.Nat.{ℕ, _<_}
 use borrow.Fn.Kinds.{In}
 use borrow.Fn.PlainCycle.{Measures, is, falls, and}
@@ -127,15 +130,23 @@ module _ (t : ℕ) where
   enter-repeats-requires : enter-lts.Need-repeats-requires (enter-claims t) (enter-at t) enter.Post
   enter-repeats-requires c κs = tt
 
-  enter-turn-requires : enter-lts.Need-turn-requires (enter-claims t) (enter-at t) enter.Post
-  enter-turn-requires c κs =
-      let one = c .before .before .before .before in
-      let inner = one .before in
+  -- what the walk into the part of a node with one part asks, where it writes from b on
+  enter-part : (c : enter-lts.Else3 (enter-claims t) (enter-at t) enter.Post) (b : ℕ)
+      → let args = c .before .before .before .before .args in
+      b ≡ args .at + 1
+      → (3 * (args .i - 1) + 2 < t)
+      × (Ready (now (args .kind)) (now (args .arg)) (args .i - 1) b
+      × Scanned (now (args .kind)) (now (args .arg)) (now (args .null)) (now (args .first)) (args .i - 1))
+  enter-part c b is =
+      let inner = c .before in
       let entry = inner .before .before .before in
       let ready = entry .pre .1 .0 in (
         omega (arith, entry .pre .0, above (inner .if1 .left) (ready .holds)),
-        (ready-part ready (one .if3 .left) _ refl, scanned-to (entry .pre .1 .1) (omega arith)),
+        (ready-part ready (c .if3 .left) b is, scanned-to (entry .pre .1 .1) (omega arith)),
       )
+
+  enter-turn-requires : enter-lts.Need-turn-requires (enter-claims t) (enter-at t) enter.Post
+  enter-turn-requires c κs = enter-part (c .before .before .before .before) _ refl
 
   enter-same-length-2 : enter-lts.Need-same-length-2 (enter-claims t) (enter-at t) enter.Post
   enter-same-length-2 c = c .before .before .turn .kept .1 .1 .1 .1 .1 .1 .1 .1 .0
@@ -158,13 +169,8 @@ module _ (t : ℕ) where
   enter-enter-requires : enter-lts.Need-enter-requires (enter-claims t) (enter-at t) enter.Post
   enter-enter-requires c κs =
       let opened = c .before .before .before in
-      let one = opened .before .before .before .before .before in
-      let inner = one .before in
-      let entry = inner .before .before .before in
-      let ready = entry .pre .1 .0 in (
-        omega (arith, entry .pre .0, above (inner .if1 .left) (ready .holds)),
-        (ready-part ready (one .if3 .left) _ (opened .put .ensures .0), scanned-to (entry .pre .1 .1) (omega arith)),
-      )
+      let part = enter-part (opened .before .before .before .before .before) _ (opened .put .ensures .0) in
+      (omega (arith, part .0), part .1)
 
   enter-close-requires : enter-lts.Need-close-requires (enter-claims t) (enter-at t) enter.Post
   enter-close-requires c κs =
@@ -193,15 +199,8 @@ module _ (t : ℕ) where
       let looked = once .before in
       let one = looked .before .before in
       let entry = one .before .before .before .before in
-      enters-turn _ _
-      (entry .pre .1 .1)
-      (one .if3 .left)
-      (looked .repeats .ensures)
-      (once .if4 .left)
-      (opened .put .ensures .0)
-      (opened .put .ensures .1)
-      (entered .enter .ensures)
-      (closed .close .ensures)
+      enters-turn _ _ (entry .pre .1 .1) (one .if3 .left) (looked .repeats .ensures) (once .if4 .left) (opened .put .ensures .0)
+      (opened .put .ensures .1) (entered .enter .ensures) (closed .close .ensures)
 
   enter-pair-element-copy-out-k : enter-pair-lts.Need-element-copy-out-k (enter-pair-claims t) (enter-pair-at t) enter-pair.Post
   enter-pair-element-copy-out-k c = c .before .pre .1 .0 .within
@@ -221,13 +220,21 @@ module _ (t : ℕ) where
   enter-pair-open-to-requires : enter-pair-lts.Need-open-to-requires (enter-pair-claims t) (enter-pair-at t) enter-pair.Post
   enter-pair-open-to-requires c κs = let s = c .before .before .before .before .pre .1 in (omega (arith, s .0 .within, s .1 .0 .long), omega (arith, s .0 .within))
 
-  enter-pair-enter-requires : enter-pair-lts.Need-enter-requires (enter-pair-claims t) (enter-pair-at t) enter-pair.Post
-  enter-pair-enter-requires c κs =
-      let read = c .before .before .before in
-      let entry = read .before .before .before .before in
+  -- what the walk into the left part asks
+  enter-pair-left : (c : enter-pair-lts.After-wide (enter-pair-claims t) (enter-pair-at t) enter-pair.Post)
+      → let args = c .before .before .before .before .args in
+      let left = c .wide .result in
+      (3 * left + 1 < t)
+      × (Ready (now (args .kind)) (now (args .arg)) left (args .at)
+      × Scanned (now (args .kind)) (now (args .arg)) (now (args .null)) (now (args .first)) left)
+  enter-pair-left c =
+      let entry = c .before .before .before .before in
       let kinds = entry .pre .1 .1 .1 in
-      let left = ready-left (entry .pre .1 .0) (kinds .0) (kinds .1) (read .wide .ensures) in
+      let left = ready-left (entry .pre .1 .0) (kinds .0) (kinds .1) (c .wide .ensures) in
       (omega (arith, entry .pre .0, left .0), (left .1, scanned-to (entry .pre .1 .1 .0) (omega (arith, left .0))))
+
+  enter-pair-enter-requires : enter-pair-lts.Need-enter-requires (enter-pair-claims t) (enter-pair-at t) enter-pair.Post
+  enter-pair-enter-requires c κs = enter-pair-left (c .before .before .before)
 
   enter-pair-on-requires : enter-pair-lts.Need-on-requires (enter-pair-claims t) (enter-pair-at t) enter-pair.Post
   enter-pair-on-requires c κs =
@@ -258,31 +265,16 @@ module _ (t : ℕ) where
       let read = looked .before in
       let entry = read .before .before .before .before in
       let kinds = entry .pre .1 .1 .1 in
-      enters-cat _ _
-      (entry .pre .1 .1 .0)
-      (kinds .0)
-      (kinds .1)
-      (read .wide .ensures)
-      (looked .open-to .ensures)
-      (cat .if1 .taken)
-      (entered .enter .ensures)
-      (went-on .on .ensures)
+      enters-cat _ _ (entry .pre .1 .1 .0) (kinds .0) (kinds .1) (read .wide .ensures) (looked .open-to .ensures) (cat .if1 .taken)
+      (entered .enter .ensures) (went-on .on .ensures)
 
   enter-pair-open-to-requires-2 : enter-pair-lts.Need-open-to-requires-2 (enter-pair-claims t) (enter-pair-at t) enter-pair.Post
   enter-pair-open-to-requires-2 c κs =
-      let read = c .before .before in
-      let entry = read .before .before .before .before in
-      let kinds = entry .pre .1 .1 .1 in
-      let left = ready-left (entry .pre .1 .0) (kinds .0) (kinds .1) (read .wide .ensures) in
-      (omega (arith, left .1 .within, entry .pre .1 .1 .0 .long), left .1 .within)
+      let left = enter-pair-left (c .before .before) .1 in
+      (omega (arith, left .0 .within, left .1 .long), left .0 .within)
 
   enter-pair-enter-requires-2 : enter-pair-lts.Need-enter-requires-2 (enter-pair-claims t) (enter-pair-at t) enter-pair.Post
-  enter-pair-enter-requires-2 c κs =
-      let read = c .before .before .before .before .before in
-      let entry = read .before .before .before .before in
-      let kinds = entry .pre .1 .1 .1 in
-      let left = ready-left (entry .pre .1 .0) (kinds .0) (kinds .1) (read .wide .ensures) in
-      (omega (arith, entry .pre .0, left .0), (left .1, scanned-to (entry .pre .1 .1 .0) (omega (arith, left .0))))
+  enter-pair-enter-requires-2 c κs = enter-pair-left (c .before .before .before .before .before)
 
   enter-pair-also-requires : enter-pair-lts.Need-also-requires (enter-pair-claims t) (enter-pair-at t) enter-pair.Post
   enter-pair-also-requires c κs = tt
@@ -300,17 +292,8 @@ module _ (t : ℕ) where
       let read = looked .before in
       let entry = read .before .before .before .before in
       let kinds = entry .pre .1 .1 .1 in
-      enters-left _ _
-      (entry .pre .1 .1 .0)
-      (kinds .0)
-      (kinds .1)
-      (read .wide .ensures)
-      (looked .open-to .ensures)
-      (alt .if1 .left)
-      (looked-left .open-to2 .ensures)
-      (by-left .if2 .taken)
-      (entered .enter2 .ensures)
-      (c .also .ensures)
+      enters-left _ _ (entry .pre .1 .1 .0) (kinds .0) (kinds .1) (read .wide .ensures) (looked .open-to .ensures) (alt .if1 .left)
+      (looked-left .open-to2 .ensures) (by-left .if2 .taken) (entered .enter2 .ensures) (c .also .ensures)
 
   enter-pair-enter-requires-3 : enter-pair-lts.Need-enter-requires-3 (enter-pair-claims t) (enter-pair-at t) enter-pair.Post
   enter-pair-enter-requires-3 c κs =
@@ -335,16 +318,8 @@ module _ (t : ℕ) where
       let read = looked .before in
       let entry = read .before .before .before .before in
       let kinds = entry .pre .1 .1 .1 in
-      enters-right _ _
-      (entry .pre .1 .1 .0)
-      (kinds .0)
-      (kinds .1)
-      (read .wide .ensures)
-      (looked .open-to .ensures)
-      (alt .if1 .left)
-      (looked-left .open-to2 .ensures)
-      (by-right .if2 .left)
-      (entered .enter3 .ensures)
+      enters-right _ _ (entry .pre .1 .1 .0) (kinds .0) (kinds .1) (read .wide .ensures) (looked .open-to .ensures) (alt .if1 .left)
+      (looked-left .open-to2 .ensures) (by-right .if2 .left) (entered .enter3 .ensures)
 
   on-enum-known-s : on-lts.Need-enum-known-s (on-claims t) (on-at t) on.Post
   on-enum-known-s c = c .match .keys1
@@ -401,14 +376,8 @@ module _ (t : ℕ) where
       let leads = opened .before .before in
       let looked = leads .before in
       let entry = looked .before .before in
-      turns-in _ _
-      (entry .pre .1 .1)
-      (looked .goes .ensures)
-      (leads .if1 .taken)
-      (opened .put .ensures .0)
-      (opened .put .ensures .1)
-      (entered .enter .ensures)
-      (c .also .ensures)
+      turns-in _ _ (entry .pre .1 .1) (looked .goes .ensures) (leads .if1 .taken) (opened .put .ensures .0)
+      (opened .put .ensures .1) (entered .enter .ensures) (c .also .ensures)
 
   turn-returns-2 : turn-lts.Need-returns-2 (turn-claims t) (turn-at t) turn.Post
   turn-returns-2 c = turns-none _ _ (c .before .before .before .pre .1 .1) (c .before .goes .ensures) (c .if1 .left)
