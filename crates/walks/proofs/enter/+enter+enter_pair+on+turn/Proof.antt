@@ -71,7 +71,22 @@ abbrev turn-below : ℕ → In 2 turn-kinds.ps
 turn-below t = and 2 turn-kinds.ps (falls 2 turn-kinds.ps _<_ μ-turn t) turn.Pre
 
 abbrev enter-claims : ℕ → enter-lts.Claims
-enter-claims t = (wide-reads.Asked, wide-reads.Learnt, enter-pair-below t, enter-pair.Post, repeats-reads.Asked, repeats-reads.Learnt, turn-below t, turn.Post, put-reads.Asked, put-reads.Learnt, enter-below t, enter.Post, close-reads.Asked, close-reads.Learnt)
+enter-claims t = (
+  wide-reads.Asked,
+  wide-reads.Learnt,
+  enter-pair-below t,
+  enter-pair.Post,
+  repeats-reads.Asked,
+  repeats-reads.Learnt,
+  turn-below t,
+  turn.Post,
+  put-reads.Asked,
+  put-reads.Learnt,
+  enter-below t,
+  enter.Post,
+  close-reads.Asked,
+  close-reads.Learnt,
+)
 
 abbrev enter-pair-claims : ℕ → enter-pair-lts.Claims
 enter-pair-claims t = (wide-reads.Asked, wide-reads.Learnt, open-to-reads.Asked, open-to-reads.Learnt, enter-below t, enter.Post, on-below t, on.Post, also-reads.Asked, also-reads.Learnt)
@@ -383,62 +398,23 @@ module _ (t : ℕ) where
   turn-returns-2 c = turns-none _ _ (c .before .before .before .pre .1 .1) (c .before .goes .ensures) (c .if1 .left)
 
 pub +enter+enter-pair+on+turn-spec : {M : Type 1} → statement M
-+enter+enter-pair+on+turn-spec = close μ-enter μ-enter-pair μ-on μ-turn (λ t. enter-lts.spec (enter-claims t) (enter-at t) enter.Post
-    (enter-element-copy-out-k t)
-    (enter-returns t)
-    (enter-mul-wide t)
-    (enter-element-copy-out-wide t)
-    (enter-wide-requires t)
-    (enter-returns-2 t)
-    (enter-enter-pair-requires t)
-    (enter-same-length t)
-    (enter-returns-3 t)
-    (enter-sub-part t)
-    (enter-mul-mark t)
-    (enter-element-copy-out-mark t)
-    (enter-repeats-requires t)
-    (enter-turn-requires t)
-    (enter-same-length-2 t)
-    (enter-returns-4 t)
-    (enter-put-requires t)
-    (enter-enter-requires t)
-    (enter-close-requires t)
-    (enter-same-length-3 t)
++enter+enter-pair+on+turn-spec =
+    close μ-enter μ-enter-pair μ-on μ-turn
+    (λ t. enter-lts.spec (enter-claims t) (enter-at t) enter.Post
+    (enter-element-copy-out-k t) (enter-returns t) (enter-mul-wide t) (enter-element-copy-out-wide t) (enter-wide-requires t)
+    (enter-returns-2 t) (enter-enter-pair-requires t) (enter-same-length t) (enter-returns-3 t) (enter-sub-part t)
+    (enter-mul-mark t) (enter-element-copy-out-mark t) (enter-repeats-requires t) (enter-turn-requires t) (enter-same-length-2 t)
+    (enter-returns-4 t) (enter-put-requires t) (enter-enter-requires t) (enter-close-requires t) (enter-same-length-3 t)
     (enter-returns-5 t))
     (λ t. enter-pair-lts.spec (enter-pair-claims t) (enter-pair-at t) enter-pair.Post
-    (enter-pair-element-copy-out-k t)
-    (enter-pair-mul-wide t)
-    (enter-pair-element-copy-out-wide t)
-    (enter-pair-wide-requires t)
-    (enter-pair-sub-right t)
-    (enter-pair-open-to-requires t)
-    (enter-pair-enter-requires t)
-    (enter-pair-on-requires t)
-    (enter-pair-same-length t)
-    (enter-pair-returns t)
-    (enter-pair-open-to-requires-2 t)
-    (enter-pair-enter-requires-2 t)
-    (enter-pair-also-requires t)
-    (enter-pair-same-length-2 t)
-    (enter-pair-returns-2 t)
-    (enter-pair-enter-requires-3 t)
-    (enter-pair-same-length-3 t)
-    (enter-pair-returns-3 t))
-    (λ t. on-lts.spec
-    (enter-below t, enter.Post, also-reads.Asked, also-reads.Learnt) (on-at t)
-    on.Post
-    (on-enum-known-s t)
-    (on-enter-requires t)
-    (on-also-requires t)
-    (on-enum-known-s-2 t)
-    (on-same-length t)
-    (on-returns t)
+    (enter-pair-element-copy-out-k t) (enter-pair-mul-wide t) (enter-pair-element-copy-out-wide t) (enter-pair-wide-requires t)
+    (enter-pair-sub-right t) (enter-pair-open-to-requires t) (enter-pair-enter-requires t) (enter-pair-on-requires t)
+    (enter-pair-same-length t) (enter-pair-returns t) (enter-pair-open-to-requires-2 t) (enter-pair-enter-requires-2 t)
+    (enter-pair-also-requires t) (enter-pair-same-length-2 t) (enter-pair-returns-2 t) (enter-pair-enter-requires-3 t)
+    (enter-pair-same-length-3 t) (enter-pair-returns-3 t))
+    (λ t. on-lts.spec (on-claims t) (on-at t) on.Post
+    (on-enum-known-s t) (on-enter-requires t) (on-also-requires t) (on-enum-known-s-2 t) (on-same-length t) (on-returns t)
     (on-returns-2 t))
     λ t. turn-lts.spec (turn-claims t) (turn-at t) turn.Post
-    (turn-goes-requires t)
-    (turn-put-requires t)
-    (turn-enter-requires t)
-    (turn-also-requires t)
-    (turn-same-length t)
-    (turn-returns t)
-    (turn-returns-2 t)
+    (turn-goes-requires t) (turn-put-requires t) (turn-enter-requires t) (turn-also-requires t) (turn-same-length t)
+    (turn-returns t) (turn-returns-2 t)
