@@ -9,9 +9,12 @@ use lib.Dec.{leb, eqb}
 use Rattle.meaning.specs.Expression.{Re}
 use Rattle.meaning.specs.Grammar.{one-of, range, signs, class-signs}
 use Rattle.meaning.specs.Grammar.{Char, bare, quoted, Range, single, span, Class, range-one, range-more}
-use Rattle.meaning.specs.Grammar.{an-atom, an-item, a-branch, fronts, a-list, Is, literal, escaped, dot, class, unit, group, once, starred, plussed, optional, item-one, item-more, front-one, front-more, lone, several}
-use Rattle.grammar.specs.Machine.{Sym, s-open, s-close, s-bar, s-dot, s-class, s-back, s-bad, s-plain, Sign, is-star, is-plus, is-opt, Kind, sign, symbol, kind, Inner, n-open, n-close, n-dash, n-back, n-char, inner}
-use Rattle.grammar.specs.Machine.{Front, first, after, Left, no-items, items, Acc, empty, ranges, Frame, frame, Mode, m-next, m-quote, m-low, m-dash, m-dash-quote, State, ready, atom, quote, inside, dead}
+use Rattle.meaning.specs.Grammar.{an-atom, an-item, a-branch, fronts, a-list}
+use Rattle.meaning.specs.Grammar.{Is, literal, escaped, dot, class, unit, group, once, starred, plussed, optional, item-one, item-more, front-one, front-more, lone, several}
+use Rattle.grammar.specs.Machine.{Sym, s-open, s-close, s-bar, s-dot, s-class, s-back, s-bad, s-plain, Sign, is-star, is-plus, is-opt, Kind, sign, symbol, kind}
+use Rattle.grammar.specs.Machine.{Inner, n-open, n-close, n-dash, n-back, n-char, inner}
+use Rattle.grammar.specs.Machine.{Front, first, after, Left, no-items, items, Acc, empty, ranges, Frame, frame}
+use Rattle.grammar.specs.Machine.{Mode, m-next, m-quote, m-low, m-dash, m-dash-quote, State, ready, atom, quote, inside, dead}
 use Rattle.grammar.specs.Machine.{start, join, join-left, bar, shut, add, act, act-bar, act-close, on-ready, on-atom, next, low, dash, high, on-inside, step, run}
 
 -- a byte and what it is

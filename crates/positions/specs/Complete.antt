@@ -4,7 +4,13 @@ use Prim.Native.Nat.{ℕ, suc, _+_}
 use Rattle.meaning.specs.Expression.{Re, cat, alt, branch, star, plus, opt, marks, size}
 use Rattle.meaning.specs.Tree.{opening, closing, letter, turn, Some, some, Tree, t-eps, t-pos, t-cat, t-left, t-right, t-branch, t-none, t-turn, t-once, t-more, t-skip, t-take}
 use Rattle.positions.specs.Parts.{star-plus}
-use Rattle.positions.specs.Positions.{Out, pass, at, Enter, e-eps, e-pos, e-cat-in, e-cat-over, e-left, e-right, e-branch-in, e-branch-over, e-star-in, e-star-over, e-plus-in, e-plus-over, e-opt-in, e-opt-over, Resume, r-pos, r-cat-in, r-cat-over, r-cat-right, r-left, r-right, r-branch-in, r-branch-out, r-star-in, r-star-out, r-star-again, r-plus-in, r-plus-out, r-plus-again, r-opt-in, r-opt-out, At, a-pos, a-cat-left, a-cat-right, a-left, a-right, a-branch, a-star, a-plus, a-opt, Trace, done, step, link, Walk, walk}
+use Rattle.positions.specs.Positions.{Out, pass, at}
+use Rattle.positions.specs.Positions.{Enter, e-eps, e-pos, e-cat-in, e-cat-over, e-left, e-right}
+use Rattle.positions.specs.Positions.{e-branch-in, e-branch-over, e-star-in, e-star-over, e-plus-in, e-plus-over, e-opt-in, e-opt-over}
+use Rattle.positions.specs.Positions.{Resume, r-pos, r-cat-in, r-cat-over, r-cat-right, r-left, r-right}
+use Rattle.positions.specs.Positions.{r-branch-in, r-branch-out, r-star-in, r-star-out, r-star-again, r-plus-in, r-plus-out, r-plus-again, r-opt-in, r-opt-out}
+use Rattle.positions.specs.Positions.{At, a-pos, a-cat-left, a-cat-right, a-left, a-right, a-branch, a-star, a-plus, a-opt}
+use Rattle.positions.specs.Positions.{Trace, done, step, link, Walk, walk}
 
 -- a walk of x is one of e, where each step of x is one of e
 module _ {m p m′ p′ : ℕ} {x e : Re}

@@ -9,7 +9,9 @@ use Rattle.meaning.specs.Expression.{Re, cat, alt, marks, size}
 use Rattle.meaning.specs.Tree.{opening, closing}
 use Rattle.grammar.specs.Fair.{Marked, Fair, f-eps, f-pos, f-cat, f-alt, f-branch, f-star, f-plus, f-opt}
 use Rattle.positions.specs.Best.{Less, l-pass, Above, v-nil, v-cons, Compared, same, later, Rival, rival, Best, less-wider, less-right, best-ways, best-put, best-wider, best-then}
-use Rattle.positions.specs.Parts.{Put, puts, into, past, Close, close, Opens, Turns, enter-cat-to, enter-cat-of, enter-branch-to, enter-branch-of, enter-plus-to, enter-plus-of, enter-star-to, enter-star-of, enter-opt-to, enter-opt-of, close-one, eps-way, pos-way}
+use Rattle.positions.specs.Parts.{Put, puts, into, past, Close, close, Opens, Turns}
+use Rattle.positions.specs.Parts.{enter-cat-to, enter-cat-of, close-one, eps-way, pos-way}
+use Rattle.positions.specs.Parts.{enter-branch-to, enter-branch-of, enter-plus-to, enter-plus-of, enter-star-to, enter-star-of, enter-opt-to, enter-opt-of}
 use Rattle.positions.specs.Positions.{Out, pass, at, Enter, e-eps, e-pos, e-left, e-right}
 use Rattle.positions.specs.Row.{Begun, begun, Row, row-nil, row-cons, enter-row, marked-begun}
 use Rattle.positions.specs.Runs.{Run, run, andThen, put, also, closes, through, loop, enterRun}

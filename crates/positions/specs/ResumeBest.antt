@@ -11,7 +11,9 @@ use Rattle.meaning.specs.Tree.{closing}
 use Rattle.grammar.specs.Fair.{Fair, f-eps, f-pos, f-cat, f-alt, f-branch, f-star, f-plus, f-opt}
 use Rattle.positions.specs.Best.{Above, v-cons, Best, best-ways, best-put, best-wider, best-then}
 use Rattle.positions.specs.EnterBest.{enter-above, only, best-close, close-above, close-full, Entered, loop-best, enter-best}
-use Rattle.positions.specs.Parts.{Then, stay, over, Put, puts, into, past, Again, Closes, Repeats, Leaves, resume-cat-to, resume-cat-of, resume-cat-right, resume-left, resume-right, cat-side, alt-side, resume-branch-to, resume-branch-of, resume-opt-to, resume-opt-of, resume-star-to, resume-star-of, resume-plus-to, resume-plus-of, no-eps, pos-one}
+use Rattle.positions.specs.Parts.{Then, stay, over, Put, puts, into, past, Again, Closes, Repeats, Leaves}
+use Rattle.positions.specs.Parts.{resume-cat-to, resume-cat-of, resume-cat-right, resume-left, resume-right, cat-side, alt-side, no-eps, pos-one}
+use Rattle.positions.specs.Parts.{resume-branch-to, resume-branch-of, resume-opt-to, resume-opt-of, resume-star-to, resume-star-of, resume-plus-to, resume-plus-of}
 use Rattle.positions.specs.Positions.{Out, pass, Resume, r-pos, r-cat-right, r-left, r-right}
 use Rattle.positions.specs.Runs.{Run, andThen, put, closes, loop, enterRun, resumeRun}
 use Rattle.positions.specs.Tests.{Ok, ok-at, ok-pass, ok-stays, Can, leads, feasible, leads-full, feasible-full}

@@ -8,7 +8,11 @@ use lib.ListN.{length, length-append}
 use Rattle.meaning.specs.Expression.{Re, eps, pos, cat, alt, branch, star, plus, opt, marks}
 use Rattle.meaning.specs.Tree.{Some, some, Tree, t-eps, t-pos, t-cat, t-left, t-right, t-branch, t-none, t-turn, t-once, t-more, t-skip, t-take}
 use Rattle.meaning.specs.Limits.{room-for}
-use Rattle.positions.specs.Positions.{Out, pass, at, Enter, e-eps, e-pos, e-cat-in, e-cat-over, e-left, e-right, e-branch-in, e-branch-over, e-star-in, e-star-over, e-plus-in, e-plus-over, e-opt-in, e-opt-over, Resume, r-pos, r-cat-in, r-cat-over, r-cat-right, r-left, r-right, r-branch-in, r-branch-out, r-star-in, r-star-out, r-star-again, r-plus-in, r-plus-out, r-plus-again, r-opt-in, r-opt-out}
+use Rattle.positions.specs.Positions.{Out, pass, at}
+use Rattle.positions.specs.Positions.{Enter, e-eps, e-pos, e-cat-in, e-cat-over, e-left, e-right}
+use Rattle.positions.specs.Positions.{e-branch-in, e-branch-over, e-star-in, e-star-over, e-plus-in, e-plus-over, e-opt-in, e-opt-over}
+use Rattle.positions.specs.Positions.{Resume, r-pos, r-cat-in, r-cat-over, r-cat-right, r-left, r-right}
+use Rattle.positions.specs.Positions.{r-branch-in, r-branch-out, r-star-in, r-star-out, r-star-again, r-plus-in, r-plus-out, r-plus-again, r-opt-in, r-opt-out}
 
 -- the length of a row
 most-cat : (k k′ l l′ n n′ : ℕ) → n ≤ room-for k l → n′ ≤ room-for k′ l′ → n + n′ ≤ room-for (k + k′) (l + l′)

@@ -10,7 +10,9 @@ use lib.ListN.{length}
 use borrow.Author.Tests.{lt-ltb, le-ltb}
 use Rattle.meaning.specs.Expression.{Re, eps, pos, cat, alt, branch, star, plus, opt, marks, size}
 use Rattle.meaning.specs.Tree.{opening, closing}
-use Rattle.positions.specs.Parts.{Then, stay, over, Put, puts, into, past, close, Again, Turns, enter-cat-to, enter-branch-to, enter-plus-to, enter-star-to, enter-opt-to, resume-cat-to, resume-branch-to, resume-opt-to, resume-star-to, resume-plus-to}
+use Rattle.positions.specs.Parts.{Then, stay, over, Put, puts, into, past, close, Again, Turns}
+use Rattle.positions.specs.Parts.{enter-cat-to, enter-branch-to, enter-plus-to, enter-star-to, enter-opt-to}
+use Rattle.positions.specs.Parts.{resume-cat-to, resume-branch-to, resume-opt-to, resume-star-to, resume-plus-to}
 use Rattle.positions.specs.Places.{In}
 use Rattle.positions.specs.Positions.{Out, pass, at, Enter, e-eps, e-pos, e-left, e-right, Resume, r-pos, r-cat-right, r-left, r-right, at-pass}
 use Rattle.positions.specs.Room.{spare, enter-room, resume-room}
