@@ -164,7 +164,8 @@ next-sound B a i-dash = v-dead
 next-sound B a i-back = v-inside B (o-quote a)
 next-sound B a (i-char p) = v-inside B (o-low a (bare p))
 
-low-sound : {F : Frame} {K : List Frame} {s t u : List ℕ} {c : Acc} {x b : ℕ} {n : Inner} → Before F K s → AccOf c t → Char u x → Inner-known b n → Inv (low c x F K b n) (s ++ 91 ∷ ((t ++ u) ++ b ∷ []))
+low-sound : {F : Frame} {K : List Frame} {s t u : List ℕ} {c : Acc} {x b : ℕ} {n : Inner}
+    → Before F K s → AccOf c t → Char u x → Inner-known b n → Inv (low c x F K b n) (s ++ 91 ∷ ((t ++ u) ++ b ∷ []))
 low-sound B a r i-open = v-dead
 low-sound B a r i-close = next-sound B (acc-add a (single r)) i-close
 low-sound {t = t} {u = u} B a r i-dash = rw (append-assoc t u (45 ∷ [])) (v-inside B (o-dash a r))
@@ -178,7 +179,8 @@ high-sound {F} {K} {s} {t} {u} {v} {c} {x} {b} B a r r′ = go (leb x b) refl
     go true e = v-inside B (o-next (acc-add a (span r r′ (leb-true x b e))))
     go false e = v-dead
 
-dash-sound : {F : Frame} {K : List Frame} {s t u : List ℕ} {c : Acc} {x b : ℕ} {n : Inner} → Before F K s → AccOf c t → Char u x → Inner-known b n → Inv (dash c x F K b n) (s ++ 91 ∷ ((t ++ (u ++ 45 ∷ [])) ++ b ∷ []))
+dash-sound : {F : Frame} {K : List Frame} {s t u : List ℕ} {c : Acc} {x b : ℕ} {n : Inner}
+    → Before F K s → AccOf c t → Char u x → Inner-known b n → Inv (dash c x F K b n) (s ++ 91 ∷ ((t ++ (u ++ 45 ∷ [])) ++ b ∷ []))
 dash-sound B a r i-open = v-dead
 dash-sound B a r i-close = v-dead
 dash-sound B a r i-dash = v-dead

@@ -67,7 +67,9 @@ once-walk (link e done) = simp append-nil (simp append-nil at (walk (e-plus-over
 once-walk (link e (step a w t)) = last-turn (λ j b a. a-plus a) (λ j q ρ w. r-plus-in w) (λ j ρ w. r-plus-out w) (e-plus-in e) (step a w t)
 
 turn-walk : {m p : ℕ} {x : Re} {s₁ s₂ r₁ r₂ : List ℕ} → Some s₁ → Walk (suc m) p x s₁ r₁ → Walk m p (star x) s₂ r₂ → Walk m p (star x) (s₁ ++ s₂) (turn m r₁ ++ r₂)
-turn-walk some (link e (step a w t)) (link e-star-over done) = simp (append-nil, append-assoc) (simp append-assoc at (last-turn (λ j b a. a-star a) (λ j q ρ w. r-star-in w) (λ j ρ w. r-star-out w) (e-star-in e) (step a w t)))
+turn-walk some (link e (step a w t)) (link e-star-over done) =
+    let last = last-turn (λ j b a. a-star a) (λ j q ρ w. r-star-in w) (λ j ρ w. r-star-out w) (e-star-in e) (step a w t) in
+    simp (append-nil, append-assoc) (simp append-assoc at last)
 turn-walk some (link e (step a w t)) (link (e-star-in {ρ = ρ} e′) t′) = next-turn (λ j b a. a-star a) (λ j q ρ w. r-star-in w) ρ (λ j ρ w. r-star-again w e′) (e-star-in e) (step a w t) t′
 
 star-plus-read : {p j b : ℕ} {x : Re} → At p (star x) j b → At p (plus x) j b

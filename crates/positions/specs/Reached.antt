@@ -143,7 +143,10 @@ begins-last {e} text i n l l′ b =
 
 -- THE PLACE: where no position can read the next byte, or the end
 pub place-inside : {e : Re} (text : List ℕ) (i : ℕ) → i < length text → Begins e (take i text) → ((q : ℕ) → Last e text i q → ⊥) → Longest (Begins e) text i
-place-inside {e} text i l b n = record { within = omega arith; begins = b; last = λ k h c. elim (decLe k i) [ yes z ↦ z | no z ↦ let x = begins-last text i k (omega arith) h c in absurd (n (x .0) (x .1)) ] }
+place-inside {e} text i l b n = record { within = omega arith; begins = b; last = last }
+  where
+    last : (k : ℕ) → k ≤ length text → Begins e (take k text) → k ≤ i
+    last k h c = elim (decLe k i) [ yes z ↦ z | no z ↦ let x = begins-last text i k (omega arith) h c in absurd (n (x .0) (x .1)) ]
 
 pub place-end : {e : Re} (text : List ℕ) → Begins e (take (length text) text) → Longest (Begins e) text (length text)
 place-end text b = record { within = omega arith; begins = b; last = λ k h c. h }

@@ -94,6 +94,10 @@ resume-best f-pos m p h j g b s = let k = pos-here (s .2) (s .3) in only _ _ _ _
 resume-best (f-cat {x = x} {y = y} f f′) m p h j g b s = cat-best m p x y h (resume-best f m p (omega arith)) (resume-best f′ _ _ (omega arith)) j g b (enter-best f′ _ _ (omega arith)) s
 resume-best (f-alt {x = x} {y = y} k k′ f f′) m p h j g b s = alt-best m p x y h (resume-best f m p (omega arith)) (resume-best f′ _ _ (omega arith)) j g b s
 resume-best (f-branch {x = x} f) m p h j g b s = like (λ ρ o w. resume-branch-to w) (λ ρ o w. resume-branch-of w) (closes-best m p x h (resume-best f (suc m) p (omega arith)) j g b) s
-resume-best (f-star {x = x} f) m p h j g b s = like (λ ρ o w. resume-star-to w) (λ ρ o w. resume-star-of w) (repeats-best m p x h (resume-best f (suc m) p (omega arith)) j g b (enter-best f (suc m) p (omega arith))) s
-resume-best (f-plus {x = x} f) m p h j g b s = like (λ ρ o w. resume-plus-to w) (λ ρ o w. resume-plus-of w) (repeats-best m p x h (resume-best f (suc m) p (omega arith)) j g b (enter-best f (suc m) p (omega arith))) s
+resume-best (f-star {x = x} f) m p h j g b s =
+    let turns = repeats-best m p x h (resume-best f (suc m) p (omega arith)) j g b (enter-best f (suc m) p (omega arith)) in
+    like (λ ρ o w. resume-star-to w) (λ ρ o w. resume-star-of w) turns s
+resume-best (f-plus {x = x} f) m p h j g b s =
+    let turns = repeats-best m p x h (resume-best f (suc m) p (omega arith)) j g b (enter-best f (suc m) p (omega arith)) in
+    like (λ ρ o w. resume-plus-to w) (λ ρ o w. resume-plus-of w) turns s
 resume-best (f-opt {x = x} f) m p h j g b s = like (λ ρ o w. resume-opt-to w) (λ ρ o w. resume-opt-of w) (closes-best m p x h (resume-best f (suc m) p (omega arith)) j g b) s

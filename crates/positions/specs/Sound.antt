@@ -126,7 +126,8 @@ some-append some t = some
 
 module _ {m p : ℕ} {x : Re} (f : Sound (suc m) p x) where
   -- a turn in e that is the only one
-  only-part : {q : ℕ} {e : Re} {ρ s r : List ℕ} → ((s r : List ℕ) → Some s → Tree (suc m) x s r → Tree m e s (turn m r)) → Enter (suc m) p x ρ (at q) → Part (suc m) p x (Closed m) q s r → Tree m e s (opening m ∷ (ρ ++ r))
+  only-part : {q : ℕ} {e : Re} {ρ s r : List ℕ} → ((s r : List ℕ) → Some s → Tree (suc m) x s r → Tree m e s (turn m r))
+      → Enter (suc m) p x ρ (at q) → Part (suc m) p x (Closed m) q s r → Tree m e s (opening m ∷ (ρ ++ r))
   only-part wrap e (part t closed) = simp (append-nil, ← append-assoc) (wrap _ _ (full t) (f _ _ _ _ e t))
 
   only-turn : {q : ℕ} {e : Re} {ρ s r : List ℕ} → ((j b : ℕ) → At p e j b → At p x j b) → ((j : ℕ) (ρ : List ℕ) (o : Out) → Resume m p e j ρ o → Closes m p x j ρ o)
