@@ -72,10 +72,6 @@ module _ (t : ℕ) where
       let entry = inner .before .before .before in
       held-right (entry .pre .1 .0) (inner .if1 .left) (two .if2 .left) (c .wide2 .ensures)
 
-  -- the node stands in the arrays
-  inside : (c : lts.After-wide2 (claims t) (at t) own.Post) → c .before .before .before .before .before .args .i < 1024
-  inside c = c .before .before .before .before .before .pre .1 .0 .within
-
   -- the table has as many sets after both parts as before
   rows-kept : (c : lts.After-opens-first3 (claims t) (at t) own.Post) → rows (c .opens-first3 .last .1 .1 .1 .0) ≡ 1024
   rows-kept c =
@@ -85,6 +81,36 @@ module _ (t : ℕ) where
       let by-right = count-kept (right-held read .1) (c .opens-first3 .ensures .0) in
       let by-left = count-kept (left-held read .1) (left .opens-first2 .ensures .0) in
       by-right ∙ by-left ∙ entry .pre .1 .1 .1 .0
+
+  -- the node stands in the arrays: at a leaf, after its one part, after both of its parts
+  leaf-inside : (c : lts.Then1 (claims t) (at t) own.Post) → c .before .before .before .args .i < 1024
+  leaf-inside c = c .before .before .before .pre .1 .0 .within
+
+  one-inside : (c : lts.After-opens-first (claims t) (at t) own.Post)
+      → let entry = c .before .before .before .before .before .before .before in
+      entry .args .i < 1024
+  one-inside c =
+      let one = c .before .before .before in
+      let entry = one .before .before .before .before in
+      entry .pre .1 .0 .within
+
+  two-inside : (c : lts.After-opens-first3 (claims t) (at t) own.Post)
+      → let read = c .before .before .before .before .before .before in
+      read .before .before .before .before .before .args .i < 1024
+  two-inside c =
+      let read = c .before .before .before .before .before .before in
+      let entry = read .before .before .before .before .before in
+      entry .pre .1 .0 .within
+
+  -- and so does its left part
+  left-inside : (c : lts.After-opens-first3 (claims t) (at t) own.Post) → c .before .before .before .before .before .before .wide2 .result < 1024
+  left-inside c = left-held (c .before .before .before .before .before .before) .1 .within
+
+  -- the sets of the parts are joined and stored once both parts are walked
+  abbrev walked-both : lts.After-store3 (claims t) (at t) own.Post → lts.After-opens-first3 (claims t) (at t) own.Post
+  walked-both c =
+      let loaded-left = c .before .before .before .before .before .before in
+      loaded-left .before .before .before .before
 
   element-copy-out-k : lts.Need-element-copy-out-k (claims t) (at t) own.Post
   element-copy-out-k c = c .pre .1 .0 .within
@@ -108,10 +134,10 @@ module _ (t : ℕ) where
   end-leaf-requires c κs = λ z. held-place (c .before .before .before .before .before .before .before .pre .1 .0) z
 
   mul-upto : lts.Need-mul-upto (claims t) (at t) own.Post
-  mul-upto c = omega (arith, c .before .before .before .before .before .before .before .before .pre .1 .0 .within)
+  mul-upto c = omega (arith, leaf-inside (c .before .before .before .before .before))
 
   element-write-upto : lts.Need-element-write-upto (claims t) (at t) own.Post
-  element-write-upto c = c .before .before .before .before .before .before .before .before .pre .1 .0 .within
+  element-write-upto c = leaf-inside (c .before .before .before .before .before)
 
   returns : lts.Need-returns (claims t) (at t) own.Post
   returns c =
@@ -156,22 +182,16 @@ module _ (t : ℕ) where
       omega (arith, asked .0 .within, asked .1 .1 .0, count-kept (part .1) (walked .opens-first .ensures .0))
 
   mul-upto-2 : lts.Need-mul-upto-2 (claims t) (at t) own.Post
-  mul-upto-2 c = omega (arith, c .before .before .before .before .before .before .before .before .before .before .before .before .pre .1 .0 .within)
+  mul-upto-2 c = omega (arith, one-inside (c .before .before .before .before .before))
 
   element-copy-out-upto : lts.Need-element-copy-out-upto (claims t) (at t) own.Post
-  element-copy-out-upto c = omega (arith, c .before .before .before .before .before .before .before .before .before .before .before .before .pre .1 .0 .within)
+  element-copy-out-upto c = omega (arith, one-inside (c .before .before .before .before .before))
 
   mul-upto-3 : lts.Need-mul-upto-3 (claims t) (at t) own.Post
-  mul-upto-3 c =
-      let walked = c .before .before .before .before .before .before in
-      let entry = walked .before .before .before .before .before .before .before in
-      omega (arith, entry .pre .1 .0 .within)
+  mul-upto-3 c = omega (arith, one-inside (c .before .before .before .before .before .before))
 
   element-write-upto-2 : lts.Need-element-write-upto-2 (claims t) (at t) own.Post
-  element-write-upto-2 c =
-      let walked = c .before .before .before .before .before .before in
-      let entry = walked .before .before .before .before .before .before .before in
-      entry .pre .1 .0 .within
+  element-write-upto-2 c = one-inside (c .before .before .before .before .before .before)
 
   returns-2 : lts.Need-returns-2 (claims t) (at t) own.Post
   returns-2 c =
@@ -215,69 +235,47 @@ module _ (t : ℕ) where
       )
 
   element-copy-out-first-two : lts.Need-element-copy-out-first-two (claims t) (at t) own.Post
-  element-copy-out-first-two c = left-held (c .before .before .before .before .before .before) .1 .within
+  element-copy-out-first-two c = left-inside c
 
   load-requires-2 : lts.Need-load-requires-2 (claims t) (at t) own.Post
   load-requires-2 c κs =
       let walked = c .before .before .before in
-      let read = walked .before .before .before .before .before .before in
-      omega (arith, left-held read .1 .within, rows-kept walked)
+      omega (arith, left-inside walked, rows-kept walked)
 
   load-requires-3 : lts.Need-load-requires-3 (claims t) (at t) own.Post
   load-requires-3 c κs =
       let walked = c .before .before .before .before .before .before in
-      let read = walked .before .before .before .before .before .before in
-      omega (arith, inside read, rows-kept walked)
+      omega (arith, two-inside walked, rows-kept walked)
 
   first-two-requires : lts.Need-first-two-requires (claims t) (at t) own.Post
   first-two-requires c κs = tt
 
   store-requires-3 : lts.Need-store-requires-3 (claims t) (at t) own.Post
   store-requires-3 c κs =
-      let walked = c .before .before .before .before .before .before .before .before .before in
-      let read = walked .before .before .before .before .before .before in
-      omega (arith, inside read, rows-kept walked)
+      let joined = c .before in
+      let walked = joined .before .before .before .before .before .before .before .before in
+      omega (arith, two-inside walked, rows-kept walked)
 
   mul-end-two : lts.Need-mul-end-two (claims t) (at t) own.Post
-  mul-end-two c =
-      let walked = c .before .before .before .before .before .before .before .before .before .before in
-      let read = walked .before .before .before .before .before .before in
-      omega (arith, left-held read .1 .within)
+  mul-end-two c = omega (arith, left-inside (walked-both c))
 
   element-copy-out-end-two : lts.Need-element-copy-out-end-two (claims t) (at t) own.Post
-  element-copy-out-end-two c =
-      let walked = c .before .before .before .before .before .before .before .before .before .before in
-      let read = walked .before .before .before .before .before .before in
-      left-held read .1 .within
+  element-copy-out-end-two c = left-inside (walked-both c)
 
   mul-end-two-2 : lts.Need-mul-end-two-2 (claims t) (at t) own.Post
-  mul-end-two-2 c =
-      let walked = c .before .before .before .before .before .before .before .before .before .before .before in
-      let read = walked .before .before .before .before .before .before in
-      omega (arith, inside read)
+  mul-end-two-2 c = omega (arith, two-inside (walked-both (c .before)))
 
   element-copy-out-end-two-2 : lts.Need-element-copy-out-end-two-2 (claims t) (at t) own.Post
-  element-copy-out-end-two-2 c =
-      let walked = c .before .before .before .before .before .before .before .before .before .before .before in
-      let read = walked .before .before .before .before .before .before in
-      omega (arith, inside read)
+  element-copy-out-end-two-2 c = omega (arith, two-inside (walked-both (c .before)))
 
   end-two-requires : lts.Need-end-two-requires (claims t) (at t) own.Post
   end-two-requires c κs = tt
 
   mul-upto-4 : lts.Need-mul-upto-4 (claims t) (at t) own.Post
-  mul-upto-4 c =
-      let stored = c .before .before .before in
-      let walked = stored .before .before .before .before .before .before .before .before .before .before in
-      let read = walked .before .before .before .before .before .before in
-      omega (arith, inside read)
+  mul-upto-4 c = omega (arith, two-inside (walked-both (c .before .before .before)))
 
   element-write-upto-3 : lts.Need-element-write-upto-3 (claims t) (at t) own.Post
-  element-write-upto-3 c =
-      let stored = c .before .before .before in
-      let walked = stored .before .before .before .before .before .before .before .before .before .before in
-      let read = walked .before .before .before .before .before .before in
-      inside read
+  element-write-upto-3 c = two-inside (walked-both (c .before .before .before))
 
   returns-3 : lts.Need-returns-3 (claims t) (at t) own.Post
   returns-3 c =
@@ -285,7 +283,7 @@ module _ (t : ℕ) where
       let joined = stored .before .before in
       let loaded-right = joined .before in
       let loaded-left = loaded-right .before .before .before in
-      let right = loaded-left .before .before .before .before in
+      let right = walked-both stored in
       let left = right .before .before .before in
       let read = left .before .before .before in
       let two = read .before in

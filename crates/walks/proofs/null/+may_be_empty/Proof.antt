@@ -62,6 +62,13 @@ module _ (t : ℕ) where
       let entry = inner .before .before in
       held-right (entry .pre .1 .0) (inner .if1 .left) (two .if2 .left) (c .wide .ensures)
 
+  -- the node stands in the arrays: after its one part, where it has two parts
+  one-inside : (c : lts.After-may-be-empty (claims t) (at t) own.Post) → c .before .before .before .before .before .args .i < 1024
+  one-inside c = c .before .before .before .before .before .pre .1 .0 .within
+
+  two-inside : (c : lts.After-wide (claims t) (at t) own.Post) → c .before .before .before .before .before .args .i < 1024
+  two-inside c = c .before .before .before .before .before .pre .1 .0 .within
+
   element-copy-out-k : lts.Need-element-copy-out-k (claims t) (at t) own.Post
   element-copy-out-k c = c .pre .1 .0 .within
 
@@ -91,13 +98,13 @@ module _ (t : ℕ) where
       (omega (arith, entry .pre .0, part .0), (part .1, entry .pre .1 .1))
 
   element-copy-out-null-one : lts.Need-element-copy-out-null-one (claims t) (at t) own.Post
-  element-copy-out-null-one c = omega (arith, c .before .before .before .before .before .pre .1 .0 .within)
+  element-copy-out-null-one c = omega (arith, one-inside c)
 
   null-one-requires : lts.Need-null-one-requires (claims t) (at t) own.Post
   null-one-requires c κs = tt
 
   element-write-null-2 : lts.Need-element-write-null-2 (claims t) (at t) own.Post
-  element-write-null-2 c = c .before .before .before .before .before .before .before .pre .1 .0 .within
+  element-write-null-2 c = one-inside (c .before .before)
 
   returns-2 : lts.Need-returns-2 (claims t) (at t) own.Post
   returns-2 c =
@@ -140,13 +147,13 @@ module _ (t : ℕ) where
   element-copy-out-null-two c = left-held (c .before .before .before .before) .1 .within
 
   element-copy-out-null-two-2 : lts.Need-element-copy-out-null-two-2 (claims t) (at t) own.Post
-  element-copy-out-null-two-2 c = omega (arith, c .before .before .before .before .before .before .before .before .before .before .pre .1 .0 .within)
+  element-copy-out-null-two-2 c = omega (arith, two-inside (c .before .before .before .before .before))
 
   null-two-requires : lts.Need-null-two-requires (claims t) (at t) own.Post
   null-two-requires c κs = tt
 
   element-write-null-3 : lts.Need-element-write-null-3 (claims t) (at t) own.Post
-  element-write-null-3 c = c .before .before .before .before .before .before .before .before .before .before .before .before .pre .1 .0 .within
+  element-write-null-3 c = two-inside (c .before .before .before .before .before .before .before)
 
   returns-3 : lts.Need-returns-3 (claims t) (at t) own.Post
   returns-3 c =

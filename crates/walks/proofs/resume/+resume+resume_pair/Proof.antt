@@ -152,7 +152,10 @@ module _ (t : ℕ) where
   resume-turns-again-requires c κs = tt
 
   resume-goes-or-requires : resume-lts.Need-goes-or-requires (resume-claims t) (resume-at t) resume.Post
-  resume-goes-or-requires c κs = let s = c .before .before .before .before .before .before .before .pre .1 in omega (arith, s .0 .within, s .1 .0 .long)
+  resume-goes-or-requires c κs =
+      let one = c .before .before .before in
+      let asked = one .before .before .before .before .pre .1 in
+      omega (arith, asked .0 .within, asked .1 .0 .long)
 
   resume-resume-requires : resume-lts.Need-resume-requires (resume-claims t) (resume-at t) resume.Post
   resume-resume-requires c κs = resume-part (c .before .before .before .before .before)
@@ -237,11 +240,18 @@ module _ (t : ℕ) where
   resume-pair-sub-right : resume-pair-lts.Need-sub-right (resume-pair-claims t) (resume-pair-at t) resume-pair.Post
   resume-pair-sub-right c = let s = c .before .before .before .before .pre .1 in omega (arith, above (s .1 .1 .1 .0) (s .0 .holds))
 
+  -- the left part stands in the arrays
+  resume-pair-inside : (c : resume-pair-lts.After-wide (resume-pair-claims t) (resume-pair-at t) resume-pair.Post) → c .wide .result < 1024
+  resume-pair-inside c =
+      let asked = c .before .before .before .before .pre .1 in
+      let kinds = asked .1 .1 .1 in
+      placed-below (asked .0) (kinds .0) (kinds .1) (c .wide .ensures) .1
+
   resume-pair-mul-wide-2 : resume-pair-lts.Need-mul-wide-2 (resume-pair-claims t) (resume-pair-at t) resume-pair.Post
-  resume-pair-mul-wide-2 c = let s = c .before .before .before .before .pre .1 in let k = s .1 .1 .1 in omega (arith, placed-below (s .0) (k .0) (k .1) (c .wide .ensures) .1)
+  resume-pair-mul-wide-2 c = omega (arith, resume-pair-inside c)
 
   resume-pair-element-copy-out-wide-2 : resume-pair-lts.Need-element-copy-out-wide-2 (resume-pair-claims t) (resume-pair-at t) resume-pair.Post
-  resume-pair-element-copy-out-wide-2 c = let s = c .before .before .before .before .pre .1 in let k = s .1 .1 .1 in placed-below (s .0) (k .0) (k .1) (c .wide .ensures) .1
+  resume-pair-element-copy-out-wide-2 c = resume-pair-inside c
 
   resume-pair-wide-requires-2 : resume-pair-lts.Need-wide-requires-2 (resume-pair-claims t) (resume-pair-at t) resume-pair.Post
   resume-pair-wide-requires-2 c κs = tt
@@ -300,7 +310,10 @@ module _ (t : ℕ) where
       (resumed .resume2 .ensures)
 
   resume-pair-open-to-requires : resume-pair-lts.Need-open-to-requires (resume-pair-claims t) (resume-pair-at t) resume-pair.Post
-  resume-pair-open-to-requires c κs = let s = c .before .before .before .before .before .before .before .before .pre .1 in (omega (arith, s .0 .within, s .1 .0 .long), omega (arith, s .0 .within))
+  resume-pair-open-to-requires c κs =
+      let read = c .before .before .before .before in
+      let asked = read .before .before .before .before .pre .1 in
+      (omega (arith, asked .0 .within, asked .1 .0 .long), omega (arith, asked .0 .within))
 
   resume-pair-resume-requires-3 : resume-pair-lts.Need-resume-requires-3 (resume-pair-claims t) (resume-pair-at t) resume-pair.Post
   resume-pair-resume-requires-3 c κs = resume-pair-left (c .before .before .before)
@@ -354,42 +367,16 @@ module _ (t : ℕ) where
       (went-on .on .ensures)
 
 pub +resume+resume-pair-spec : {M : Type 1} → statement M
-+resume+resume-pair-spec = close μ-resume μ-resume-pair (λ t. resume-lts.spec (resume-claims t) (resume-at t) resume.Post
-    (resume-element-copy-out-k t)
-    (resume-returns t)
-    (resume-resume-pair-requires t)
-    (resume-same-length t)
-    (resume-returns-2 t)
-    (resume-sub-part t)
-    (resume-mul-mark t)
-    (resume-element-copy-out-mark t)
-    (resume-turns-again-requires t)
-    (resume-goes-or-requires t)
-    (resume-resume-requires t)
-    (resume-again-requires t)
-    (resume-same-length-2 t)
-    (resume-returns-3 t)
-    (resume-resume-requires-2 t)
-    (resume-close-requires t)
-    (resume-same-length-3 t)
-    (resume-returns-4 t))
++resume+resume-pair-spec =
+    close μ-resume μ-resume-pair
+    (λ t. resume-lts.spec (resume-claims t) (resume-at t) resume.Post
+    (resume-element-copy-out-k t) (resume-returns t) (resume-resume-pair-requires t) (resume-same-length t) (resume-returns-2 t)
+    (resume-sub-part t) (resume-mul-mark t) (resume-element-copy-out-mark t) (resume-turns-again-requires t)
+    (resume-goes-or-requires t) (resume-resume-requires t) (resume-again-requires t) (resume-same-length-2 t) (resume-returns-3 t)
+    (resume-resume-requires-2 t) (resume-close-requires t) (resume-same-length-3 t) (resume-returns-4 t))
     λ t. resume-pair-lts.spec (resume-pair-claims t) (resume-pair-at t) resume-pair.Post
-    (resume-pair-element-copy-out-k t)
-    (resume-pair-mul-wide t)
-    (resume-pair-element-copy-out-wide t)
-    (resume-pair-wide-requires t)
-    (resume-pair-sub-right t)
-    (resume-pair-mul-wide-2 t)
-    (resume-pair-element-copy-out-wide-2 t)
-    (resume-pair-wide-requires-2 t)
-    (resume-pair-resume-requires t)
-    (resume-pair-same-length t)
-    (resume-pair-returns t)
-    (resume-pair-resume-requires-2 t)
-    (resume-pair-same-length-2 t)
-    (resume-pair-returns-2 t)
-    (resume-pair-open-to-requires t)
-    (resume-pair-resume-requires-3 t)
-    (resume-pair-on-requires t)
-    (resume-pair-same-length-3 t)
-    (resume-pair-returns-3 t)
+    (resume-pair-element-copy-out-k t) (resume-pair-mul-wide t) (resume-pair-element-copy-out-wide t) (resume-pair-wide-requires t)
+    (resume-pair-sub-right t) (resume-pair-mul-wide-2 t) (resume-pair-element-copy-out-wide-2 t) (resume-pair-wide-requires-2 t)
+    (resume-pair-resume-requires t) (resume-pair-same-length t) (resume-pair-returns t) (resume-pair-resume-requires-2 t)
+    (resume-pair-same-length-2 t) (resume-pair-returns-2 t) (resume-pair-open-to-requires t) (resume-pair-resume-requires-3 t)
+    (resume-pair-on-requires t) (resume-pair-same-length-3 t) (resume-pair-returns-3 t)
