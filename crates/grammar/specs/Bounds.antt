@@ -5,7 +5,8 @@ use native.Mathlib.Omega.{arith}
 use lib.ListN.{length, length-append}
 use Rattle.meaning.specs.Expression.{Re, marks, size}
 use Rattle.meaning.specs.ReadPattern.{nodes}
-use Rattle.meaning.specs.Grammar.{Part, an-atom, an-item, a-branch, fronts, a-list, Is, literal, escaped, dot, class, unit, group, once, starred, plussed, optional, item-one, item-more, front-one, front-more, lone, several, Pattern}
+use Rattle.meaning.specs.Grammar.{Part, an-atom, an-item, a-branch, fronts, a-list, Pattern}
+use Rattle.meaning.specs.Grammar.{Is, literal, escaped, dot, class, unit, group, once, starred, plussed, optional, item-one, item-more, front-one, front-more, lone, several}
 
 -- how much less than twice the length the nodes are
 abbrev pub slack : Part → ℕ

@@ -3,7 +3,8 @@ use mathlib.Core.Bool.{Bool}
 use mathlib.Core.List.{List}
 use Prim.Native.Nat.{ℕ}
 use Rattle.meaning.specs.Expression.{Re, eps, pos, cat, alt, branch, star, plus, opt}
-use Rattle.meaning.specs.Grammar.{Part, an-atom, an-item, a-branch, fronts, a-list, Is, literal, escaped, dot, class, unit, group, once, starred, plussed, optional, item-one, item-more, front-one, front-more, lone, several, Pattern}
+use Rattle.meaning.specs.Grammar.{Part, an-atom, an-item, a-branch, fronts, a-list, Pattern}
+use Rattle.meaning.specs.Grammar.{Is, literal, escaped, dot, class, unit, group, once, starred, plussed, optional, item-one, item-more, front-one, front-more, lone, several}
 
 -- every row of e begins with a mark
 pub data Marked : Re → Type 0 where

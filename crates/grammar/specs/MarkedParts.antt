@@ -5,7 +5,8 @@ use Prim.Native.Nat.{ℕ, _+_}
 use native.Mathlib.Omega.{arith}
 use lib.ListN.{length, length-append}
 use Rattle.meaning.specs.Expression.{Re, eps, pos, cat, alt, branch, star, plus, opt}
-use Rattle.meaning.specs.Grammar.{Part, an-atom, a-branch, Is, literal, escaped, dot, class, unit, group, once, starred, plussed, optional, item-one, item-more, front-one, front-more, lone, several, Pattern}
+use Rattle.meaning.specs.Grammar.{Part, an-atom, a-branch, Pattern}
+use Rattle.meaning.specs.Grammar.{Is, literal, escaped, dot, class, unit, group, once, starred, plussed, optional, item-one, item-more, front-one, front-more, lone, several}
 use Rattle.grammar.specs.Machine.{Sign, is-star, is-plus, is-opt}
 use Rattle.grammar.specs.Numbering.{Extent, extents}
 

@@ -27,7 +27,10 @@ pub seen-all : (s : List ℕ) → seen s (length s) ≡ run start s
 seen-all s = rw take-length refl
 
 seen-from : (s : List ℕ) (p q : ℕ) → p ≤ q → seen s q ≡ run (seen s p) (drop p (take q s))
-seen-from s p q h = ap (run start) (sym (take-append-drop p (take q s))) ∙ run-append start (take p (take q s)) (drop p (take q s)) ∙ ap (λ (l : List ℕ). run (run start l) (drop p (take q s))) (take-take p q s h)
+seen-from s p q h =
+    let rest = drop p (take q s) in
+    ap (run start) (sym (take-append-drop p (take q s))) ∙ run-append start (take p (take q s)) rest
+    ∙ ap (λ (l : List ℕ). run (run start l) rest) (take-take p q s h)
 
 -- from this state the machine stops at p: it dies of the byte there, or the row ends and is no pattern
 pub record Halts (st : State) (s : List ℕ) (p : ℕ) : Type 0 where

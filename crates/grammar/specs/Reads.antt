@@ -9,7 +9,8 @@ use lib.Dec.{eqb}
 use Rattle.meaning.specs.Expression.{Re, pos}
 use Rattle.meaning.specs.Grammar.{one-of, range, only, signs, class-signs}
 use Rattle.meaning.specs.Grammar.{Char, bare, quoted, Range, single, span, Class, range-one, range-more}
-use Rattle.meaning.specs.Grammar.{Part, an-atom, an-item, a-branch, fronts, a-list, Is, literal, escaped, dot, class, unit, group, once, starred, plussed, optional, item-one, item-more, front-one, front-more, lone, several, Pattern}
+use Rattle.meaning.specs.Grammar.{Part, an-atom, an-item, a-branch, fronts, a-list, Pattern}
+use Rattle.meaning.specs.Grammar.{Is, literal, escaped, dot, class, unit, group, once, starred, plussed, optional, item-one, item-more, front-one, front-more, lone, several}
 use Rattle.grammar.specs.Machine.{Sym, s-open, s-close, s-bar, s-dot, s-class, s-back, s-plain, symbol, kind, n-char, inner}
 use Rattle.grammar.specs.Machine.{Front, first, after, no-items, items, Acc, empty, ranges, Frame, frame, m-next, m-low, m-dash, State, ready, atom, inside}
 use Rattle.grammar.specs.Machine.{fresh, start, join, shut, add, act, step, run, Answer, read, whole, result, run-append}

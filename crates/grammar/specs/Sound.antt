@@ -9,9 +9,12 @@ use lib.Dec.{leb, eqb}
 use Rattle.meaning.specs.Expression.{Re}
 use Rattle.meaning.specs.Grammar.{one-of, range, signs, class-signs}
 use Rattle.meaning.specs.Grammar.{Char, bare, quoted, Range, single, span, Class, range-one, range-more}
-use Rattle.meaning.specs.Grammar.{an-atom, an-item, a-branch, fronts, a-list, Is, literal, escaped, dot, class, unit, group, once, starred, plussed, optional, item-one, item-more, front-one, front-more, lone, several}
-use Rattle.grammar.specs.Machine.{Sym, s-open, s-close, s-bar, s-dot, s-class, s-back, s-bad, s-plain, Sign, is-star, is-plus, is-opt, Kind, sign, symbol, kind, Inner, n-open, n-close, n-dash, n-back, n-char, inner}
-use Rattle.grammar.specs.Machine.{Front, first, after, Left, no-items, items, Acc, empty, ranges, Frame, frame, Mode, m-next, m-quote, m-low, m-dash, m-dash-quote, State, ready, atom, quote, inside, dead}
+use Rattle.meaning.specs.Grammar.{an-atom, an-item, a-branch, fronts, a-list}
+use Rattle.meaning.specs.Grammar.{Is, literal, escaped, dot, class, unit, group, once, starred, plussed, optional, item-one, item-more, front-one, front-more, lone, several}
+use Rattle.grammar.specs.Machine.{Sym, s-open, s-close, s-bar, s-dot, s-class, s-back, s-bad, s-plain, Sign, is-star, is-plus, is-opt, Kind, sign, symbol, kind}
+use Rattle.grammar.specs.Machine.{Inner, n-open, n-close, n-dash, n-back, n-char, inner}
+use Rattle.grammar.specs.Machine.{Front, first, after, Left, no-items, items, Acc, empty, ranges, Frame, frame}
+use Rattle.grammar.specs.Machine.{Mode, m-next, m-quote, m-low, m-dash, m-dash-quote, State, ready, atom, quote, inside, dead}
 use Rattle.grammar.specs.Machine.{start, join, join-left, bar, shut, add, act, act-bar, act-close, on-ready, on-atom, next, low, dash, high, on-inside, step, run}
 
 -- a byte and what it is
@@ -161,7 +164,8 @@ next-sound B a i-dash = v-dead
 next-sound B a i-back = v-inside B (o-quote a)
 next-sound B a (i-char p) = v-inside B (o-low a (bare p))
 
-low-sound : {F : Frame} {K : List Frame} {s t u : List ℕ} {c : Acc} {x b : ℕ} {n : Inner} → Before F K s → AccOf c t → Char u x → Inner-known b n → Inv (low c x F K b n) (s ++ 91 ∷ ((t ++ u) ++ b ∷ []))
+low-sound : {F : Frame} {K : List Frame} {s t u : List ℕ} {c : Acc} {x b : ℕ} {n : Inner}
+    → Before F K s → AccOf c t → Char u x → Inner-known b n → Inv (low c x F K b n) (s ++ 91 ∷ ((t ++ u) ++ b ∷ []))
 low-sound B a r i-open = v-dead
 low-sound B a r i-close = next-sound B (acc-add a (single r)) i-close
 low-sound {t = t} {u = u} B a r i-dash = rw (append-assoc t u (45 ∷ [])) (v-inside B (o-dash a r))
@@ -175,7 +179,8 @@ high-sound {F} {K} {s} {t} {u} {v} {c} {x} {b} B a r r′ = go (leb x b) refl
     go true e = v-inside B (o-next (acc-add a (span r r′ (leb-true x b e))))
     go false e = v-dead
 
-dash-sound : {F : Frame} {K : List Frame} {s t u : List ℕ} {c : Acc} {x b : ℕ} {n : Inner} → Before F K s → AccOf c t → Char u x → Inner-known b n → Inv (dash c x F K b n) (s ++ 91 ∷ ((t ++ (u ++ 45 ∷ [])) ++ b ∷ []))
+dash-sound : {F : Frame} {K : List Frame} {s t u : List ℕ} {c : Acc} {x b : ℕ} {n : Inner}
+    → Before F K s → AccOf c t → Char u x → Inner-known b n → Inv (dash c x F K b n) (s ++ 91 ∷ ((t ++ (u ++ 45 ∷ [])) ++ b ∷ []))
 dash-sound B a r i-open = v-dead
 dash-sound B a r i-close = v-dead
 dash-sound B a r i-dash = v-dead

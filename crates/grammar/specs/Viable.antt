@@ -14,7 +14,8 @@ use Rattle.grammar.specs.Machine.{Acc, empty, ranges, Frame, frame, Mode
 use Rattle.grammar.specs.Machine.{start, join-left, shut, add, high, step, run, none, read, whole, result, alive, run-append, run-dead}
 use Rattle.grammar.specs.ByteRow.{bytes-left, bytes-right, bytes-tail, char-byte}
 use Rattle.grammar.specs.Reads.{accepts}
-use Rattle.grammar.specs.Sound.{no-left, some-left, FrameOf, frame-of, Before, base, Inv, v-ready, v-atom, v-quote, v-inside, v-dead, no-acc, some-acc, ModeOf, o-next, o-quote, o-low, o-dash, o-dash-quote, start-sound, shut-list, before-join}
+use Rattle.grammar.specs.Sound.{no-left, some-left, FrameOf, frame-of, Before, base, start-sound, shut-list, before-join}
+use Rattle.grammar.specs.Sound.{Inv, v-ready, v-atom, v-quote, v-inside, v-dead, no-acc, some-acc, ModeOf, o-next, o-quote, o-low, o-dash, o-dash-quote}
 
 pub none-read : {A : Type 0} {e : Re} {d : ℕ} → none ≡ read e d → A
 none-read e = let z : _≡_ {A = ℕ} 0 1 = cc in absurd (omega arith)

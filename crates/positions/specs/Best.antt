@@ -72,7 +72,8 @@ less-prefix {m} {k} {ρ′} {σ} {σ′} {o} ρ e l = rw (← e) (go ρ)
     go (t ∷ ρ) = l-next refl (go ρ)
 
 -- the best of the same ways
-pub best-ways : {m k : ℕ} {R S : List ℕ → Out → Type 0} {g : ℕ → Bool} {b : Bool} {r : Run} → ((ρ : List ℕ) (o : Out) → R ρ o → S ρ o) → ((ρ : List ℕ) (o : Out) → S ρ o → R ρ o) → Best m k R g b r → Best m k S g b r
+pub best-ways : {m k : ℕ} {R S : List ℕ → Out → Type 0} {g : ℕ → Bool} {b : Bool} {r : Run}
+    → ((ρ : List ℕ) (o : Out) → R ρ o → S ρ o) → ((ρ : List ℕ) (o : Out) → S ρ o → R ρ o) → Best m k R g b r → Best m k S g b r
 best-ways {m} {k} {R} {S} {g} {b} {r} to from B = record { way = to _ _ (B .way); ok = B .ok; least = λ ρ o w h. B .least ρ o (from ρ o w) h; rivals = λ c. go (B .rivals c) }
   where
     go : Rival m k R g b r → Rival m k S g b r

@@ -4,7 +4,13 @@ use Prim.Native.Nat.{ℕ, suc, _+_}
 use Rattle.meaning.specs.Expression.{Re, cat, alt, branch, star, plus, opt, marks, size}
 use Rattle.meaning.specs.Tree.{opening, closing, letter, turn, Some, some, Tree, t-eps, t-pos, t-cat, t-left, t-right, t-branch, t-none, t-turn, t-once, t-more, t-skip, t-take}
 use Rattle.positions.specs.Parts.{star-plus}
-use Rattle.positions.specs.Positions.{Out, pass, at, Enter, e-eps, e-pos, e-cat-in, e-cat-over, e-left, e-right, e-branch-in, e-branch-over, e-star-in, e-star-over, e-plus-in, e-plus-over, e-opt-in, e-opt-over, Resume, r-pos, r-cat-in, r-cat-over, r-cat-right, r-left, r-right, r-branch-in, r-branch-out, r-star-in, r-star-out, r-star-again, r-plus-in, r-plus-out, r-plus-again, r-opt-in, r-opt-out, At, a-pos, a-cat-left, a-cat-right, a-left, a-right, a-branch, a-star, a-plus, a-opt, Trace, done, step, link, Walk, walk}
+use Rattle.positions.specs.Positions.{Out, pass, at}
+use Rattle.positions.specs.Positions.{Enter, e-eps, e-pos, e-cat-in, e-cat-over, e-left, e-right}
+use Rattle.positions.specs.Positions.{e-branch-in, e-branch-over, e-star-in, e-star-over, e-plus-in, e-plus-over, e-opt-in, e-opt-over}
+use Rattle.positions.specs.Positions.{Resume, r-pos, r-cat-in, r-cat-over, r-cat-right, r-left, r-right}
+use Rattle.positions.specs.Positions.{r-branch-in, r-branch-out, r-star-in, r-star-out, r-star-again, r-plus-in, r-plus-out, r-plus-again, r-opt-in, r-opt-out}
+use Rattle.positions.specs.Positions.{At, a-pos, a-cat-left, a-cat-right, a-left, a-right, a-branch, a-star, a-plus, a-opt}
+use Rattle.positions.specs.Positions.{Trace, done, step, link, Walk, walk}
 
 -- a walk of x is one of e, where each step of x is one of e
 module _ {m p m′ p′ : ℕ} {x e : Re}
@@ -61,7 +67,9 @@ once-walk (link e done) = simp append-nil (simp append-nil at (walk (e-plus-over
 once-walk (link e (step a w t)) = last-turn (λ j b a. a-plus a) (λ j q ρ w. r-plus-in w) (λ j ρ w. r-plus-out w) (e-plus-in e) (step a w t)
 
 turn-walk : {m p : ℕ} {x : Re} {s₁ s₂ r₁ r₂ : List ℕ} → Some s₁ → Walk (suc m) p x s₁ r₁ → Walk m p (star x) s₂ r₂ → Walk m p (star x) (s₁ ++ s₂) (turn m r₁ ++ r₂)
-turn-walk some (link e (step a w t)) (link e-star-over done) = simp (append-nil, append-assoc) (simp append-assoc at (last-turn (λ j b a. a-star a) (λ j q ρ w. r-star-in w) (λ j ρ w. r-star-out w) (e-star-in e) (step a w t)))
+turn-walk some (link e (step a w t)) (link e-star-over done) =
+    let last = last-turn (λ j b a. a-star a) (λ j q ρ w. r-star-in w) (λ j ρ w. r-star-out w) (e-star-in e) (step a w t) in
+    simp (append-nil, append-assoc) (simp append-assoc at last)
 turn-walk some (link e (step a w t)) (link (e-star-in {ρ = ρ} e′) t′) = next-turn (λ j b a. a-star a) (λ j q ρ w. r-star-in w) ρ (λ j ρ w. r-star-again w e′) (e-star-in e) (step a w t) t′
 
 star-plus-read : {p j b : ℕ} {x : Re} → At p (star x) j b → At p (plus x) j b

@@ -9,7 +9,9 @@ use Rattle.meaning.specs.Expression.{Re, cat, alt, marks, size}
 use Rattle.meaning.specs.Tree.{opening, closing}
 use Rattle.grammar.specs.Fair.{Marked, Fair, f-eps, f-pos, f-cat, f-alt, f-branch, f-star, f-plus, f-opt}
 use Rattle.positions.specs.Best.{Less, l-pass, Above, v-nil, v-cons, Compared, same, later, Rival, rival, Best, less-wider, less-right, best-ways, best-put, best-wider, best-then}
-use Rattle.positions.specs.Parts.{Put, puts, into, past, Close, close, Opens, Turns, enter-cat-to, enter-cat-of, enter-branch-to, enter-branch-of, enter-plus-to, enter-plus-of, enter-star-to, enter-star-of, enter-opt-to, enter-opt-of, close-one, eps-way, pos-way}
+use Rattle.positions.specs.Parts.{Put, puts, into, past, Close, close, Opens, Turns}
+use Rattle.positions.specs.Parts.{enter-cat-to, enter-cat-of, close-one, eps-way, pos-way}
+use Rattle.positions.specs.Parts.{enter-branch-to, enter-branch-of, enter-plus-to, enter-plus-of, enter-star-to, enter-star-of, enter-opt-to, enter-opt-of}
 use Rattle.positions.specs.Positions.{Out, pass, at, Enter, e-eps, e-pos, e-left, e-right}
 use Rattle.positions.specs.Row.{Begun, begun, Row, row-nil, row-cons, enter-row, marked-begun}
 use Rattle.positions.specs.Runs.{Run, run, andThen, put, also, closes, through, loop, enterRun}
@@ -28,7 +30,8 @@ begun-less : {m k : ℕ} {ρ : List ℕ} → Begun m k ρ → Less m k ρ [] pas
 begun-less (begun {i = i} a b) = l-pass {t = opening i} (omega arith) (omega arith)
 
 -- one way only
-pub only : {R : List ℕ → Out → Type 0} {g : ℕ → Bool} {b : Bool} (m k : ℕ) (ρ : List ℕ) (o : Out) → R ρ o → Ok g b o → ((σ : List ℕ) (u : Out) → R σ u → (ρ ≡ σ) × (o ≡ u)) → Best m k R g b (run ρ o false)
+pub only : {R : List ℕ → Out → Type 0} {g : ℕ → Bool} {b : Bool} (m k : ℕ) (ρ : List ℕ) (o : Out) → R ρ o → Ok g b o
+    → ((σ : List ℕ) (u : Out) → R σ u → (ρ ≡ σ) × (o ≡ u)) → Best m k R g b (run ρ o false)
 only m k ρ o w h one = record { way = w; ok = h; least = λ σ u x i. same (one σ u x .0) (one σ u x .1); rivals = λ c. absurd (false≢true c) }
 
 pub best-close : {g : ℕ → Bool} {b : Bool} (m m₀ k₀ : ℕ) → b ≡ true → Best m₀ k₀ (Close m) g b (closes m)
@@ -56,14 +59,22 @@ module _ (m p : ℕ) (x : Re) (g : ℕ → Bool) (b : Bool) (k : ℕ) where
 
   loop-some : (r : Run) → 0 < k → Best m k (Put (opening m) (Enter (suc m) p x)) g false (put (opening m) r) → Best m k (Turns m p x) g b (also b (put (opening m) r))
   loop-some (run ρ pass w) z B = absurd (false≢true (ok-passes (B .ok)))
-  loop-some (run ρ (at q) w) z B = record { way = way (B .way); ok = ok-stays b (B .ok); least = λ σ o u h. least u h; rivals = λ e. elim (either w b e) [ inl i ↦ rivals-in (B .rivals i) | inr i ↦ rival past (ok-pass i) (l-pass {t = opening m} (omega arith) (omega arith)) ] }
+  loop-some (run ρ (at q) w) z B = record {
+    way = way (B .way);
+    ok = ok-stays b (B .ok);
+    least = λ σ o u h. least u h;
+    rivals = λ e. elim (either w b e) [ inl i ↦ rivals-in (B .rivals i) | inr i ↦ rival past (ok-pass i) before-past ];
+  }
     where
+      before-past : Less m k (opening m ∷ ρ) [] pass
+      before-past = l-pass {t = opening m} (omega arith) (omega arith)
+
       way : {σ : List ℕ} → Put (opening m) (Enter (suc m) p x) σ (at q) → Turns m p x σ (at q)
       way (puts u) = into u
 
       least : {σ : List ℕ} {o : Out} → Turns m p x σ o → Ok g b o → Compared m k (run (opening m ∷ ρ) (at q) (w || b)) σ o
       least (into u) (ok-at h) = also-least b (B .least _ _ (puts u) (ok-at h))
-      least past (ok-pass h) = later (or-right w h) (l-pass {t = opening m} (omega arith) (omega arith))
+      least past (ok-pass h) = later (or-right w h) before-past
 
       rivals-in : Rival m k (Put (opening m) (Enter (suc m) p x)) g false (run (opening m ∷ ρ) (at q) w) → Rival m k (Turns m p x) g b (run (opening m ∷ ρ) (at q) (w || b))
       rivals-in (rival (puts u) (ok-at h) l) = rival (into u) (ok-at h) l
@@ -73,7 +84,12 @@ module _ (m p : ℕ) (x : Re) (g : ℕ → Bool) (b : Bool) (k : ℕ) where
 module _ (m p : ℕ) (x y : Re) (g : ℕ → Bool) (b : Bool) (h : m + (marks x + marks y) ≤ 127) where
   alt-left : (r s : Run) → Marked x → Best m (marks x) (Enter m p x) g b r → (feasible (p + size x) y g b ≡ true → Best (m + marks x) (marks y) (Enter (m + marks x) (p + size x) y) g b s)
       → Best m (marks x + marks y) (Enter m p (alt x y)) g b (also (feasible (p + size x) y g b) r)
-  alt-left (run ρ o w) s k B C = record { way = e-left (B .way); ok = B .ok; least = λ σ u a i. least a i; rivals = λ e. elim (either w _ e) [ inl a ↦ rivals-left (B .rivals a) | inr a ↦ rivals-right (C a) ] }
+  alt-left (run ρ o w) s k B C = record {
+    way = e-left (B .way);
+    ok = B .ok;
+    least = λ σ u a i. least a i;
+    rivals = λ e. elim (either w _ e) [ inl a ↦ rivals-left (B .rivals a) | inr a ↦ rivals-right (C a) ];
+  }
     where
       less : {σ : List ℕ} {u : Out} → Enter (m + marks x) (p + size x) y σ u → Less m (marks x + marks y) ρ σ u
       less {u = u} a = less-right u (omega arith) (omega arith) (omega arith) (begun-less (marked-begun k (B .way))) refl (enter-above a)
@@ -119,7 +135,10 @@ module _ (m p : ℕ) (x y : Re) (h : m + (marks x + marks y) ≤ 127) (f : Enter
   unfolding enterRun
   alt-best k e = go (feasible p x g b) refl
     where
-      go : (l : Bool) → feasible p x g b ≡ l → Best m (marks x + marks y) (Enter m p (alt x y)) g b (cond l (also (feasible (p + size x) y g b) (enterRun m p x g b)) (enterRun (m + marks x) (p + size x) y g b))
+      go : (l : Bool) → feasible p x g b ≡ l
+          → let left = also (feasible (p + size x) y g b) (enterRun m p x g b) in
+          let right = enterRun (m + marks x) (p + size x) y g b in
+          Best m (marks x + marks y) (Enter m p (alt x y)) g b (cond l left right)
       go true i = alt-left m p x y g b h _ _ k (f g b i) (f′ g b)
       go false i = alt-right m p x y g b h _ i (f′ g b (feasible-right p x y g b e i))
 

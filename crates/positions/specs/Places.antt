@@ -4,7 +4,12 @@ use mathlib.Core.List.{List}
 use Prim.Native.Nat.{ℕ, _+_, _≤_, _<_}
 use native.Mathlib.Omega.{arith}
 use Rattle.meaning.specs.Expression.{Re, size}
-use Rattle.positions.specs.Positions.{Out, pass, at, Enter, e-eps, e-pos, e-cat-in, e-cat-over, e-left, e-right, e-branch-in, e-branch-over, e-star-in, e-star-over, e-plus-in, e-plus-over, e-opt-in, e-opt-over, Resume, r-pos, r-cat-in, r-cat-over, r-cat-right, r-left, r-right, r-branch-in, r-branch-out, r-star-in, r-star-out, r-star-again, r-plus-in, r-plus-out, r-plus-again, r-opt-in, r-opt-out, At, a-pos, a-cat-left, a-cat-right, a-left, a-right, a-branch, a-star, a-plus, a-opt}
+use Rattle.positions.specs.Positions.{Out, pass, at}
+use Rattle.positions.specs.Positions.{Enter, e-eps, e-pos, e-cat-in, e-cat-over, e-left, e-right}
+use Rattle.positions.specs.Positions.{e-branch-in, e-branch-over, e-star-in, e-star-over, e-plus-in, e-plus-over, e-opt-in, e-opt-over}
+use Rattle.positions.specs.Positions.{Resume, r-pos, r-cat-in, r-cat-over, r-cat-right, r-left, r-right}
+use Rattle.positions.specs.Positions.{r-branch-in, r-branch-out, r-star-in, r-star-out, r-star-again, r-plus-in, r-plus-out, r-plus-again, r-opt-in, r-opt-out}
+use Rattle.positions.specs.Positions.{At, a-pos, a-cat-left, a-cat-right, a-left, a-right, a-branch, a-star, a-plus, a-opt}
 
 -- position j is one of e
 abbrev pub In : ℕ → Re → ℕ → Type 0

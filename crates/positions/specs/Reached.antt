@@ -13,7 +13,11 @@ use Rattle.meaning.specs.Grammar.{Bytes, no-byte, byte, Longest}
 use Rattle.meaning.specs.Tree.{closing, Some, some, Tree, t-eps, t-pos, t-cat, t-left, t-branch, t-none, t-once, t-skip, Begins}
 use Rattle.grammar.specs.Open.{Open, names, o-eps, o-pos, o-cat, o-alt, o-branch, o-star, o-plus, o-opt}
 use Rattle.positions.specs.Complete.{lift, join, complete}
-use Rattle.positions.specs.Positions.{Out, pass, at, Resume, r-pos, r-cat-in, r-cat-over, r-cat-right, r-left, r-right, r-branch-in, r-branch-out, r-star-in, r-star-out, r-plus-in, r-plus-out, r-opt-in, r-opt-out, At, a-pos, a-cat-left, a-cat-right, a-left, a-right, a-branch, a-star, a-plus, a-opt, Trace, done, step, link, Walk, walk}
+use Rattle.positions.specs.Positions.{Out, pass, at}
+use Rattle.positions.specs.Positions.{Resume, r-pos, r-cat-in, r-cat-over, r-cat-right, r-left, r-right}
+use Rattle.positions.specs.Positions.{r-branch-in, r-branch-out, r-star-in, r-star-out, r-plus-in, r-plus-out, r-opt-in, r-opt-out}
+use Rattle.positions.specs.Positions.{At, a-pos, a-cat-left, a-cat-right, a-left, a-right, a-branch, a-star, a-plus, a-opt}
+use Rattle.positions.specs.Positions.{Trace, done, step, link, Walk, walk}
 use Rattle.positions.specs.Sets.{firsts, follows, firsts-full, firsts-some, follows-full, follows-some}
 use Rattle.positions.specs.Sound.{walked}
 use Rattle.positions.specs.Tests.{reads, reads-full, reads-some}
@@ -139,7 +143,10 @@ begins-last {e} text i n l l′ b =
 
 -- THE PLACE: where no position can read the next byte, or the end
 pub place-inside : {e : Re} (text : List ℕ) (i : ℕ) → i < length text → Begins e (take i text) → ((q : ℕ) → Last e text i q → ⊥) → Longest (Begins e) text i
-place-inside {e} text i l b n = record { within = omega arith; begins = b; last = λ k h c. elim (decLe k i) [ yes z ↦ z | no z ↦ let x = begins-last text i k (omega arith) h c in absurd (n (x .0) (x .1)) ] }
+place-inside {e} text i l b n = record { within = omega arith; begins = b; last = last }
+  where
+    last : (k : ℕ) → k ≤ length text → Begins e (take k text) → k ≤ i
+    last k h c = elim (decLe k i) [ yes z ↦ z | no z ↦ let x = begins-last text i k (omega arith) h c in absurd (n (x .0) (x .1)) ]
 
 pub place-end : {e : Re} (text : List ℕ) → Begins e (take (length text) text) → Longest (Begins e) text (length text)
 place-end text b = record { within = omega arith; begins = b; last = λ k h c. h }

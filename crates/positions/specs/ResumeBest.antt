@@ -11,7 +11,9 @@ use Rattle.meaning.specs.Tree.{closing}
 use Rattle.grammar.specs.Fair.{Fair, f-eps, f-pos, f-cat, f-alt, f-branch, f-star, f-plus, f-opt}
 use Rattle.positions.specs.Best.{Above, v-cons, Best, best-ways, best-put, best-wider, best-then}
 use Rattle.positions.specs.EnterBest.{enter-above, only, best-close, close-above, close-full, Entered, loop-best, enter-best}
-use Rattle.positions.specs.Parts.{Then, stay, over, Put, puts, into, past, Again, Closes, Repeats, Leaves, resume-cat-to, resume-cat-of, resume-cat-right, resume-left, resume-right, cat-side, alt-side, resume-branch-to, resume-branch-of, resume-opt-to, resume-opt-of, resume-star-to, resume-star-of, resume-plus-to, resume-plus-of, no-eps, pos-one}
+use Rattle.positions.specs.Parts.{Then, stay, over, Put, puts, into, past, Again, Closes, Repeats, Leaves}
+use Rattle.positions.specs.Parts.{resume-cat-to, resume-cat-of, resume-cat-right, resume-left, resume-right, cat-side, alt-side, no-eps, pos-one}
+use Rattle.positions.specs.Parts.{resume-branch-to, resume-branch-of, resume-opt-to, resume-opt-of, resume-star-to, resume-star-of, resume-plus-to, resume-plus-of}
 use Rattle.positions.specs.Positions.{Out, pass, Resume, r-pos, r-cat-right, r-left, r-right}
 use Rattle.positions.specs.Runs.{Run, andThen, put, closes, loop, enterRun, resumeRun}
 use Rattle.positions.specs.Tests.{Ok, ok-at, ok-pass, ok-stays, Can, leads, feasible, leads-full, feasible-full}
@@ -92,6 +94,10 @@ resume-best f-pos m p h j g b s = let k = pos-here (s .2) (s .3) in only _ _ _ _
 resume-best (f-cat {x = x} {y = y} f f′) m p h j g b s = cat-best m p x y h (resume-best f m p (omega arith)) (resume-best f′ _ _ (omega arith)) j g b (enter-best f′ _ _ (omega arith)) s
 resume-best (f-alt {x = x} {y = y} k k′ f f′) m p h j g b s = alt-best m p x y h (resume-best f m p (omega arith)) (resume-best f′ _ _ (omega arith)) j g b s
 resume-best (f-branch {x = x} f) m p h j g b s = like (λ ρ o w. resume-branch-to w) (λ ρ o w. resume-branch-of w) (closes-best m p x h (resume-best f (suc m) p (omega arith)) j g b) s
-resume-best (f-star {x = x} f) m p h j g b s = like (λ ρ o w. resume-star-to w) (λ ρ o w. resume-star-of w) (repeats-best m p x h (resume-best f (suc m) p (omega arith)) j g b (enter-best f (suc m) p (omega arith))) s
-resume-best (f-plus {x = x} f) m p h j g b s = like (λ ρ o w. resume-plus-to w) (λ ρ o w. resume-plus-of w) (repeats-best m p x h (resume-best f (suc m) p (omega arith)) j g b (enter-best f (suc m) p (omega arith))) s
+resume-best (f-star {x = x} f) m p h j g b s =
+    let turns = repeats-best m p x h (resume-best f (suc m) p (omega arith)) j g b (enter-best f (suc m) p (omega arith)) in
+    like (λ ρ o w. resume-star-to w) (λ ρ o w. resume-star-of w) turns s
+resume-best (f-plus {x = x} f) m p h j g b s =
+    let turns = repeats-best m p x h (resume-best f (suc m) p (omega arith)) j g b (enter-best f (suc m) p (omega arith)) in
+    like (λ ρ o w. resume-plus-to w) (λ ρ o w. resume-plus-of w) turns s
 resume-best (f-opt {x = x} f) m p h j g b s = like (λ ρ o w. resume-opt-to w) (λ ρ o w. resume-opt-of w) (closes-best m p x h (resume-best f (suc m) p (omega arith)) j g b) s

@@ -8,11 +8,18 @@ use lib.ListN.{length, length-append}
 use Rattle.meaning.specs.Expression.{Re, eps, pos, cat, alt, branch, star, plus, opt, marks}
 use Rattle.meaning.specs.Tree.{Some, some, Tree, t-eps, t-pos, t-cat, t-left, t-right, t-branch, t-none, t-turn, t-once, t-more, t-skip, t-take}
 use Rattle.meaning.specs.Limits.{room-for}
-use Rattle.positions.specs.Positions.{Out, pass, at, Enter, e-eps, e-pos, e-cat-in, e-cat-over, e-left, e-right, e-branch-in, e-branch-over, e-star-in, e-star-over, e-plus-in, e-plus-over, e-opt-in, e-opt-over, Resume, r-pos, r-cat-in, r-cat-over, r-cat-right, r-left, r-right, r-branch-in, r-branch-out, r-star-in, r-star-out, r-star-again, r-plus-in, r-plus-out, r-plus-again, r-opt-in, r-opt-out}
+use Rattle.positions.specs.Positions.{Out, pass, at}
+use Rattle.positions.specs.Positions.{Enter, e-eps, e-pos, e-cat-in, e-cat-over, e-left, e-right}
+use Rattle.positions.specs.Positions.{e-branch-in, e-branch-over, e-star-in, e-star-over, e-plus-in, e-plus-over, e-opt-in, e-opt-over}
+use Rattle.positions.specs.Positions.{Resume, r-pos, r-cat-in, r-cat-over, r-cat-right, r-left, r-right}
+use Rattle.positions.specs.Positions.{r-branch-in, r-branch-out, r-star-in, r-star-out, r-star-again, r-plus-in, r-plus-out, r-plus-again, r-opt-in, r-opt-out}
 
 -- the length of a row
 most-cat : (k k′ l l′ n n′ : ℕ) → n ≤ room-for k l → n′ ≤ room-for k′ l′ → n + n′ ≤ room-for (k + k′) (l + l′)
-most-cat k k′ l l′ n n′ h h′ = omega (arith, add-mul k k′ (max (l + l′) 1), mul-le-mul-left {m = max l 1} {n = max (l + l′) 1} k (omega arith), mul-le-mul-left {m = max l′ 1} {n = max (l + l′) 1} k′ (omega arith))
+most-cat k k′ l l′ n n′ h h′ =
+    let left = mul-le-mul-left {m = max l 1} {n = max (l + l′) 1} k (omega arith) in
+    let right = mul-le-mul-left {m = max l′ 1} {n = max (l + l′) 1} k′ (omega arith) in
+    omega (arith, add-mul k k′ (max (l + l′) 1), left, right)
 
 most-alt : (k k′ l n : ℕ) → n ≤ room-for k l → n ≤ room-for (k + k′) l
 most-alt k k′ l n h = omega (arith, add-mul k k′ (max l 1))
@@ -35,7 +42,8 @@ most-star k l n h = omega (arith, mul-le-mul-left {m = l} {n = max l 1} (suc k) 
 some-length : {s : List ℕ} → Some s → 0 < length s
 some-length some = omega arith
 
-star-length : {m : ℕ} {x : Re} (f : (s r : List ℕ) → Tree (suc m) x s r → length r ≤ room-for (marks x) (length s)) {s r : List ℕ} → Tree m (star x) s r → length r ≤ length s + 2 * (suc (marks x) * length s)
+star-length : {m : ℕ} {x : Re} (f : (s r : List ℕ) → Tree (suc m) x s r → length r ≤ room-for (marks x) (length s)) {s r : List ℕ}
+    → Tree m (star x) s r → length r ≤ length s + 2 * (suc (marks x) * length s)
 star-length f t-none = omega arith
 star-length {x = x} f (t-turn {s₁ = s} {s₂ = s′} {r₁ = r} {r₂ = r′} n t u) =
     simp length-append (most-turns (marks x) (length s) (length s′) (length r) (length r′) (some-length n) (f _ _ t) (star-length f u))
@@ -44,7 +52,10 @@ pub row-length : (e : Re) (m : ℕ) (s r : List ℕ) → Tree m e s r → length
 unfolding marks
 row-length eps m s r t-eps = omega arith
 row-length (pos c) m s r (t-pos _) = omega arith
-row-length (cat x y) m s r (t-cat {s₁ = s₁} {s₂ = s₂} {r₁ = r₁} {r₂ = r₂} t u) = simp length-append (most-cat (marks x) (marks y) (length s₁) (length s₂) (length r₁) (length r₂) (row-length x _ _ _ t) (row-length y _ _ _ u))
+row-length (cat x y) m s r (t-cat {s₁ = s₁} {s₂ = s₂} {r₁ = r₁} {r₂ = r₂} t u) =
+    let left = row-length x m s₁ r₁ t in
+    let right = row-length y (m + marks x) s₂ r₂ u in
+    simp length-append (most-cat (marks x) (marks y) (length s₁) (length s₂) (length r₁) (length r₂) left right)
 row-length (alt x y) m s r (t-left t) = most-alt (marks x) (marks y) _ _ (row-length x _ _ _ t)
 row-length (alt x y) m s r (t-right t) = most-alt′ (marks x) (marks y) _ _ (row-length y _ _ _ t)
 row-length (branch x) m s _ (t-branch {r = r} t) = simp length-append (most-turn (marks x) (length s) (length r) (row-length x _ _ _ t))

@@ -7,8 +7,13 @@ use native.Mathlib.Omega.{arith}
 use Rattle.meaning.specs.Expression.{Re, alt, marks, size}
 use Rattle.meaning.specs.Tree.{opening, closing, letter}
 use Rattle.grammar.specs.Fair.{Marked, k-cat, k-alt, k-branch, k-plus, Fair, f-eps, f-pos, f-cat, f-alt, f-branch, f-star, f-plus, f-opt}
-use Rattle.positions.specs.Parts.{Then, stay, over, Put, puts, Loop, into, past, Close, close, enter-cat-of, enter-branch-of, enter-plus-of, enter-star-of, enter-opt-of, resume-cat-of, resume-cat-right, resume-left, resume-right, cat-side, alt-side, resume-branch-of, resume-opt-of, resume-star-of, resume-plus-of, no-eps, pos-one, close-one, eps-way, pos-way}
-use Rattle.positions.specs.Positions.{Out, pass, at, Enter, e-eps, e-pos, e-cat-in, e-cat-over, e-left, e-right, e-branch-in, e-branch-over, e-star-in, e-star-over, e-plus-in, e-plus-over, e-opt-in, e-opt-over, Resume, At, at-pass, pass-at}
+use Rattle.positions.specs.Parts.{Then, stay, over, Put, puts, Loop, into, past, Close, close}
+use Rattle.positions.specs.Parts.{enter-cat-of, enter-branch-of, enter-plus-of, enter-star-of, enter-opt-of, close-one, eps-way, pos-way}
+use Rattle.positions.specs.Parts.{resume-cat-of, resume-cat-right, resume-left, resume-right, cat-side, alt-side, no-eps, pos-one}
+use Rattle.positions.specs.Parts.{resume-branch-of, resume-opt-of, resume-star-of, resume-plus-of}
+use Rattle.positions.specs.Positions.{Out, pass, at, at-pass, pass-at, Resume, At}
+use Rattle.positions.specs.Positions.{Enter, e-eps, e-pos, e-cat-in, e-cat-over, e-left, e-right}
+use Rattle.positions.specs.Positions.{e-branch-in, e-branch-over, e-star-in, e-star-over, e-plus-in, e-plus-over, e-opt-in, e-opt-over}
 
 -- a token of the k marks that m marks stand before
 pub data Own (m k : ℕ) : ℕ → Type 0 where

@@ -10,7 +10,9 @@ use lib.ListN.{length}
 use borrow.Author.Tests.{lt-ltb, le-ltb}
 use Rattle.meaning.specs.Expression.{Re, eps, pos, cat, alt, branch, star, plus, opt, marks, size}
 use Rattle.meaning.specs.Tree.{opening, closing}
-use Rattle.positions.specs.Parts.{Then, stay, over, Put, puts, into, past, close, Again, Turns, enter-cat-to, enter-branch-to, enter-plus-to, enter-star-to, enter-opt-to, resume-cat-to, resume-branch-to, resume-opt-to, resume-star-to, resume-plus-to}
+use Rattle.positions.specs.Parts.{Then, stay, over, Put, puts, into, past, close, Again, Opens, Turns}
+use Rattle.positions.specs.Parts.{enter-cat-to, enter-branch-to, enter-plus-to, enter-star-to, enter-opt-to}
+use Rattle.positions.specs.Parts.{resume-cat-to, resume-branch-to, resume-opt-to, resume-star-to, resume-plus-to}
 use Rattle.positions.specs.Places.{In}
 use Rattle.positions.specs.Positions.{Out, pass, at, Enter, e-eps, e-pos, e-left, e-right, Resume, r-pos, r-cat-right, r-left, r-right, at-pass}
 use Rattle.positions.specs.Room.{spare, enter-room, resume-room}
@@ -71,7 +73,8 @@ loop-way : (m p : ℕ) (x : Re) (g : ℕ → Bool) (b : Bool) → Enter (suc m) 
     → Turns m p x (rowOf (loop m (leads p x g) b (enterRun (suc m) p x g false))) (outOf (loop m (leads p x g) b (enterRun (suc m) p x g false)))
 loop-way m p x g b h = go (leads p x g) refl (enterRun (suc m) p x g false) h (pass-allowed (suc m) p x g false)
   where
-    go : (l : Bool) → leads p x g ≡ l → (r : Run) → Enter (suc m) p x (rowOf r) (outOf r) → (feasible p x g false ≡ true → outOf r ≡ pass → false ≡ true) → Turns m p x (rowOf (loop m l b r)) (outOf (loop m l b r))
+    go : (l : Bool) → leads p x g ≡ l → (r : Run) → Enter (suc m) p x (rowOf r) (outOf r)
+        → (feasible p x g false ≡ true → outOf r ≡ pass → false ≡ true) → Turns m p x (rowOf (loop m l b r)) (outOf (loop m l b r))
     go true i (run ρ pass w) h z = absurd (false≢true (z (or-left _ i) refl))
     go true i (run ρ (at q) w) h z = into h
     go false i r h z = past
@@ -81,18 +84,31 @@ choice-way : (l c : Bool) (m p : ℕ) (x y : Re) (r s : Run) → Enter m p x (ro
 choice-way true c m p x y (run ρ o w) s h i = e-left h
 choice-way false c m p x y r s h i = e-right i
 
+opens-way : (m p : ℕ) (x : Re) (r : Run) → Enter (suc m) p x (rowOf r) (outOf r)
+    → let turn = andThen (put (opening m) r) (closes m) in
+    Opens m p x (rowOf turn) (outOf turn)
+opens-way m p x r h = then-way (put (opening m) r) (closes m) (put-way (opening m) r h) close
+
 pub enter-run-way : (m p : ℕ) (e : Re) (g : ℕ → Bool) (b : Bool) → Enter m p e (rowOf (enterRun m p e g b)) (outOf (enterRun m p e g b))
 unfolding enterRun
 enter-run-way m p eps g b = e-eps
 enter-run-way m p (pos c) g b = e-pos
-enter-run-way m p (cat x y) g b = enter-cat-to (then-way (enterRun m p x g (feasible (p + size x) y g b)) (enterRun (m + marks x) (p + size x) y g b) (enter-run-way m p x g _) (enter-run-way _ _ y g b))
-enter-run-way m p (alt x y) g b = choice-way (feasible p x g b) (feasible (p + size x) y g b) m p x y (enterRun m p x g b) (enterRun (m + marks x) (p + size x) y g b) (enter-run-way m p x g b) (enter-run-way _ _ y g b)
-enter-run-way m p (branch x) g b = enter-branch-to (then-way (put (opening m) (enterRun (suc m) p x g b)) (closes m) (put-way (opening m) (enterRun (suc m) p x g b) (enter-run-way (suc m) p x g b)) close)
+enter-run-way m p (cat x y) g b =
+    let left = enterRun m p x g (feasible (p + size x) y g b) in
+    let right = enterRun (m + marks x) (p + size x) y g b in
+    enter-cat-to (then-way left right (enter-run-way m p x g _) (enter-run-way _ _ y g b))
+enter-run-way m p (alt x y) g b =
+    let left = enterRun m p x g b in
+    let right = enterRun (m + marks x) (p + size x) y g b in
+    choice-way (feasible p x g b) (feasible (p + size x) y g b) m p x y left right (enter-run-way m p x g b) (enter-run-way _ _ y g b)
+enter-run-way m p (branch x) g b = enter-branch-to (opens-way m p x (enterRun (suc m) p x g b) (enter-run-way (suc m) p x g b))
 enter-run-way m p (star x) g b = enter-star-to (loop-way m p x g b (enter-run-way (suc m) p x g false))
-enter-run-way m p (plus x) g b = enter-plus-to (then-way (put (opening m) (enterRun (suc m) p x g b)) (closes m) (put-way (opening m) (enterRun (suc m) p x g b) (enter-run-way (suc m) p x g b)) close)
+enter-run-way m p (plus x) g b = enter-plus-to (opens-way m p x (enterRun (suc m) p x g b) (enter-run-way (suc m) p x g b))
 enter-run-way m p (opt x) g b = enter-opt-to (loop-way m p x g b (enter-run-way (suc m) p x g false))
 
-again-way : (m p : ℕ) (x : Re) (g : ℕ → Bool) (b : Bool) → Again m p x (rowOf (put (closing m) (loop m (leads p x g) b (enterRun (suc m) p x g false)))) (outOf (put (closing m) (loop m (leads p x g) b (enterRun (suc m) p x g false))))
+again-way : (m p : ℕ) (x : Re) (g : ℕ → Bool) (b : Bool)
+    → let again = put (closing m) (loop m (leads p x g) b (enterRun (suc m) p x g false)) in
+    Again m p x (rowOf again) (outOf again)
 again-way m p x g b = put-way (closing m) (loop m (leads p x g) b (enterRun (suc m) p x g false)) (loop-way m p x g b (enter-run-way (suc m) p x g false))
 
 -- from position j of x or of y

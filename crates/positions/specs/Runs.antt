@@ -62,7 +62,10 @@ enterRun m p (opt x) g b = loop m (leads p x g) b (enterRun (suc m) p x g false)
 unfoldable pub resumeRun : ℕ → ℕ → Re → ℕ → (ℕ → Bool) → Bool → Run
 resumeRun m p eps j g b = through
 resumeRun m p (pos c) j g b = through
-resumeRun m p (cat x y) j g b = cond (ltb j (p + size x)) (andThen (resumeRun m p x j g (feasible (p + size x) y g b)) (enterRun (m + marks x) (p + size x) y g b)) (resumeRun (m + marks x) (p + size x) y j g b)
+resumeRun m p (cat x y) j g b =
+    cond (ltb j (p + size x))
+    (andThen (resumeRun m p x j g (feasible (p + size x) y g b)) (enterRun (m + marks x) (p + size x) y g b))
+    (resumeRun (m + marks x) (p + size x) y j g b)
 resumeRun m p (alt x y) j g b = cond (ltb j (p + size x)) (resumeRun m p x j g b) (resumeRun (m + marks x) (p + size x) y j g b)
 resumeRun m p (branch x) j g b = andThen (resumeRun (suc m) p x j g b) (closes m)
 resumeRun m p (star x) j g b = andThen (resumeRun (suc m) p x j g (leads p x g || b)) (put (closing m) (loop m (leads p x g) b (enterRun (suc m) p x g false)))
@@ -85,7 +88,11 @@ pub resume-run-same : (m p : ℕ) (e : Re) (j : ℕ) (g g′ : ℕ → Bool) (b 
 unfolding resumeRun
 resume-run-same m p eps j g g′ b s = refl
 resume-run-same m p (pos c) j g g′ b s = refl
-resume-run-same m p (cat x y) j g g′ b s = rw (leads-same (p + size x) y g g′ s, resume-run-same m p x j g g′ (feasible (p + size x) y g′ b) s, enter-run-same (m + marks x) (p + size x) y g g′ b s, resume-run-same (m + marks x) (p + size x) y j g g′ b s)
+resume-run-same m p (cat x y) j g g′ b s =
+    let left = resume-run-same m p x j g g′ (feasible (p + size x) y g′ b) s in
+    let entered = enter-run-same (m + marks x) (p + size x) y g g′ b s in
+    let right = resume-run-same (m + marks x) (p + size x) y j g g′ b s in
+    rw (leads-same (p + size x) y g g′ s, left, entered, right)
 resume-run-same m p (alt x y) j g g′ b s = rw (resume-run-same m p x j g g′ b s, resume-run-same (m + marks x) (p + size x) y j g g′ b s)
 resume-run-same m p (branch x) j g g′ b s = rw (resume-run-same (suc m) p x j g g′ b s)
 resume-run-same m p (star x) j g g′ b s = rw (leads-same p x g g′ s, resume-run-same (suc m) p x j g g′ (leads p x g′ || b) s, enter-run-same (suc m) p x g g′ false s)

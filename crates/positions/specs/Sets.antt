@@ -53,7 +53,10 @@ reaches-meet p e j g = (λ h. elim (reaches-some 0 p e j g h) [ hits w k ↦ mee
 
 -- tests of the same goal
 pub leads-same : (p : ℕ) (e : Re) (g g′ : ℕ → Bool) → ((q : ℕ) → g q ≡ g′ q) → leads p e g ≡ leads p e g′
-leads-same p e g g′ s = alike _ _ (λ h. elim (leads-some 0 p e g h) [ hits {q = q} w k ↦ leads-full g′ w (sym (s q) ∙ k) ]) (λ h. elim (leads-some 0 p e g′ h) [ hits {q = q} w k ↦ leads-full g w (s q ∙ k) ])
+leads-same p e g g′ s = alike _ _ (to g g′ s) (to g′ g (λ q. sym (s q)))
+  where
+    to : (g g′ : ℕ → Bool) → ((q : ℕ) → g q ≡ g′ q) → leads p e g ≡ true → leads p e g′ ≡ true
+    to g g′ s h = elim (leads-some 0 p e g h) [ hits {q = q} w k ↦ leads-full g′ w (sym (s q) ∙ k) ]
 
 -- From the root down: a tells whether q may come after e, b whether the end may. Then q may follow position j of e, and j may be the last.
 unfoldable pub followsIn : ℕ → Re → Bool → ℕ → ℕ → Bool

@@ -7,9 +7,14 @@ use native.Mathlib.Omega.{arith}
 use Rattle.meaning.specs.Expression.{Re, eps, pos, cat, alt, branch, star, plus, opt, marks, size}
 use Rattle.meaning.specs.Tree.{opening, closing, letter, turn, Some, some, Tree, t-eps, t-pos, t-cat, t-left, t-right, t-branch, t-none, t-turn, t-once, t-more, t-skip, t-take}
 use Rattle.positions.specs.Complete.{lift}
-use Rattle.positions.specs.Parts.{Then, stay, over, puts, into, past, Close, close, Again, Closes, resume-cat-of, resume-cat-right, resume-left, resume-right, resume-branch-of, resume-opt-of, resume-star-of, plus-star}
+use Rattle.positions.specs.Parts.{Then, stay, over, puts, into, past, Close, close, Again, Closes}
+use Rattle.positions.specs.Parts.{resume-cat-of, resume-cat-right, resume-left, resume-right, resume-branch-of, resume-opt-of, resume-star-of, plus-star}
 use Rattle.positions.specs.Places.{In, Within, w-at, inside, placed, entered, resumed}
-use Rattle.positions.specs.Positions.{Out, pass, at, Enter, e-eps, e-pos, e-cat-in, e-cat-over, e-left, e-right, e-branch-in, e-branch-over, e-star-in, e-star-over, e-plus-in, e-plus-over, e-opt-in, e-opt-over, Resume, r-pos, At, a-pos, a-cat-left, a-cat-right, a-left, a-right, a-branch, a-star, a-plus, a-opt, Trace, done, step, link, Walk}
+use Rattle.positions.specs.Positions.{Out, pass, at, Resume, r-pos}
+use Rattle.positions.specs.Positions.{Enter, e-eps, e-pos, e-cat-in, e-cat-over, e-left, e-right}
+use Rattle.positions.specs.Positions.{e-branch-in, e-branch-over, e-star-in, e-star-over, e-plus-in, e-plus-over, e-opt-in, e-opt-over}
+use Rattle.positions.specs.Positions.{At, a-pos, a-cat-left, a-cat-right, a-left, a-right, a-branch, a-star, a-plus, a-opt}
+use Rattle.positions.specs.Positions.{Trace, done, step, link, Walk}
 
 -- a walk of e that stands in x and cannot leave it is one of x
 module _ {m p m′ p′ : ℕ} {x e : Re}
@@ -121,7 +126,8 @@ some-append some t = some
 
 module _ {m p : ℕ} {x : Re} (f : Sound (suc m) p x) where
   -- a turn in e that is the only one
-  only-part : {q : ℕ} {e : Re} {ρ s r : List ℕ} → ((s r : List ℕ) → Some s → Tree (suc m) x s r → Tree m e s (turn m r)) → Enter (suc m) p x ρ (at q) → Part (suc m) p x (Closed m) q s r → Tree m e s (opening m ∷ (ρ ++ r))
+  only-part : {q : ℕ} {e : Re} {ρ s r : List ℕ} → ((s r : List ℕ) → Some s → Tree (suc m) x s r → Tree m e s (turn m r))
+      → Enter (suc m) p x ρ (at q) → Part (suc m) p x (Closed m) q s r → Tree m e s (opening m ∷ (ρ ++ r))
   only-part wrap e (part t closed) = simp (append-nil, ← append-assoc) (wrap _ _ (full t) (f _ _ _ _ e t))
 
   only-turn : {q : ℕ} {e : Re} {ρ s r : List ℕ} → ((j b : ℕ) → At p e j b → At p x j b) → ((j : ℕ) (ρ : List ℕ) (o : Out) → Resume m p e j ρ o → Closes m p x j ρ o)

@@ -8,7 +8,12 @@ use lib.Dec.{ltb, eqb}
 use borrow.Author.Tests.{lt-ltb, le-ltb, eqb-true, eq-eqb}
 use Rattle.meaning.specs.Expression.{Re, eps, pos, cat, alt, branch, star, plus, opt, size}
 use Rattle.positions.specs.Places.{source, placed}
-use Rattle.positions.specs.Positions.{Out, pass, at, Enter, e-eps, e-pos, e-cat-in, e-cat-over, e-left, e-right, e-branch-in, e-branch-over, e-star-in, e-star-over, e-plus-in, e-plus-over, e-opt-in, e-opt-over, Resume, r-pos, r-cat-in, r-cat-over, r-cat-right, r-left, r-right, r-branch-in, r-branch-out, r-star-in, r-star-out, r-star-again, r-plus-in, r-plus-out, r-plus-again, r-opt-in, r-opt-out, At, a-pos, a-cat-left, a-cat-right, a-left, a-right, a-branch, a-star, a-plus, a-opt, at-pass}
+use Rattle.positions.specs.Positions.{Out, pass, at, at-pass}
+use Rattle.positions.specs.Positions.{Enter, e-eps, e-pos, e-cat-in, e-cat-over, e-left, e-right}
+use Rattle.positions.specs.Positions.{e-branch-in, e-branch-over, e-star-in, e-star-over, e-plus-in, e-plus-over, e-opt-in, e-opt-over}
+use Rattle.positions.specs.Positions.{Resume, r-pos, r-cat-in, r-cat-over, r-cat-right, r-left, r-right}
+use Rattle.positions.specs.Positions.{r-branch-in, r-branch-out, r-star-in, r-star-out, r-star-again, r-plus-in, r-plus-out, r-plus-again, r-opt-in, r-opt-out}
+use Rattle.positions.specs.Positions.{At, a-pos, a-cat-left, a-cat-right, a-left, a-right, a-branch, a-star, a-plus, a-opt}
 use Rattle.bits.specs.Truth.{or-left, or-right, and-both, either, both, chosen}
 
 -- where a walk may end: at a position of the goal or, if b, by passing

@@ -156,7 +156,8 @@ module _ {ks gs ns fs : List ℕ} {i from : ℕ} (goal : Set) (pass : Bool) (T :
   -- ---- of a loop's part, and after a step
 
   module _ {v : Bool} {mark : ℕ} (z : v ≡ meets (row fs i) goal) where
-    pub turns-in : {t t₁ t₂ : List ℕ} {b : ℕ} {s r : Step} → v ≡ true → b ≡ from + 1 → t₁ ≡ set t from mark → EntersAt ks gs i goal false t₁ t₂ b s → r ≡ noted pass s → TurnsAt ks gs i mark goal pass t t₂ from r
+    pub turns-in : {t t₁ t₂ : List ℕ} {b : ℕ} {s r : Step} → v ≡ true → b ≡ from + 1 → t₁ ≡ set t from mark
+        → EntersAt ks gs i goal false t₁ t₂ b s → r ≡ noted pass s → TurnsAt ks gs i mark goal pass t t₂ from r
     turns-in y q u E n = record {
       wrote = λ e m p h a.
           let f = goes-is T (omega arith) goal z h in

@@ -54,14 +54,16 @@ module _ {A : Type 0} {count : List ℕ → ℕ} {entry : List ℕ → ℕ → A
   filled-at a b f = rw (← a, ← b) f
 
   -- what is right in one way is in another
-  pub filled-as : {Wanted : ℕ → A → Type 0} {t t′ : List ℕ} {lo hi : ℕ} → ((j : ℕ) → lo ≤ j → j < hi → (v : A) → Right j v → Wanted j v) → Filled count entry Right lo hi t t′ → Filled count entry Wanted lo hi t t′
+  pub filled-as : {Wanted : ℕ → A → Type 0} {t t′ : List ℕ} {lo hi : ℕ} → ((j : ℕ) → lo ≤ j → j < hi → (v : A) → Right j v → Wanted j v)
+      → Filled count entry Right lo hi t t′ → Filled count entry Wanted lo hi t t′
   filled-as {t′ = t′} f g = record { same-count = g .same-count; right = λ j a b. f j a b (entry t′ j) (g .right j a b); other = g .other }
 
   -- ---- along the nodes of an expression
 
   module _ {ks gs : List ℕ} {i : ℕ} where
     -- the node itself, once the entries of its parts are there
-    whole : {m p : ℕ} {e : Re} {t t₁ t₂ : List ℕ} {v : A} → Holds ks gs m p i e → Filled count entry Right (first-node i e) i t t₁ → Put count entry i v t₁ t₂ → Right i v → Filled count entry Right (first-node i e) (suc i) t t₂
+    whole : {m p : ℕ} {e : Re} {t t₁ t₂ : List ℕ} {v : A} → Holds ks gs m p i e
+        → Filled count entry Right (first-node i e) i t t₁ → Put count entry i v t₁ t₂ → Right i v → Filled count entry Right (first-node i e) (suc i) t t₂
     whole {e = e} h f u r = filled-then (first-node i e) i (suc i) (omega (arith, nodes-some e)) (omega arith) f (filled-put i u r)
 
     pub walked-zero : {t t₁ : List ℕ} {v : A} → getD ks i 0 < 2 → Put count entry i v t t₁ → Right i v → Walked count entry Right ks gs i t t₁

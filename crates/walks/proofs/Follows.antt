@@ -97,7 +97,8 @@ module _ {ks gs : List ℕ} {i : ℕ} {after ends : Set} {end : Bool} where
   pub follows-eps : {t : List ℕ} → getD ks i 0 < 2 → getD ks i 0 ≡ 0 → FollowsAt ks gs i after end t t ends ends
   follows-eps k z = record { filled = λ e m p h. eps-rows after ends end (leaf k h) z; ended = λ e m p h. eps-ends after ends end (leaf k h) z }
 
-  pub follows-pos : {a : ℕ} {t t′ : List ℕ} {r : Set} → getD ks i 0 < 2 → (getD ks i 0 ≡ 0 → ⊥) → a ≡ getD gs i 0 → Put rows row a after t t′ → ((j : ℕ) → has r j ≡ (has ends j || (eqb j a && end))) → FollowsAt ks gs i after end t t′ ends r
+  pub follows-pos : {a : ℕ} {t t′ : List ℕ} {r : Set} → getD ks i 0 < 2 → (getD ks i 0 ≡ 0 → ⊥) → a ≡ getD gs i 0
+      → Put rows row a after t t′ → ((j : ℕ) → has r j ≡ (has ends j || (eqb j a && end))) → FollowsAt ks gs i after end t t′ ends r
   follows-pos {r = r} k z q u f = record { filled = λ e m p h. pos-rows after ends end (leaf k h) z (rw q at u); ended = λ e m p h. pos-ends after ends end r (leaf k h) z (rw q at f) }
 
   module _ {ns fs : List ℕ} {next : Set} (T : Scanned ks gs ns fs i) (w : (q : ℕ) → has next q ≡ nextOf (getD ks i 0) (has (row fs (i - 1)) q) (getD ns (i - 1) 0) (has after q)) where

@@ -46,7 +46,8 @@ module _ {ks gs : List ℕ} {m p i : ℕ} where
   unary : {k : ℕ} {x e : Re} → Unary ks gs i k (suc m) → Holds ks gs (suc m) p (i - 1) x → One k x e → Single ks gs m p i e
   unary {x = x} u h o = record { x = x; is = rw (u .node .kind) o; above = u .above; mark = u .mark; part = h }
 
-  binary : {k l : ℕ} {x y e : Re} → l ≡ getD gs i 0 → Binary ks gs i k (nodes y) → Holds ks gs m p (getD gs i 0) x → Holds ks gs (m + marks x) (p + size x) (i - 1) y → Two k x y e → Double ks gs m p i l e
+  binary : {k l : ℕ} {x y e : Re} → l ≡ getD gs i 0 → Binary ks gs i k (nodes y)
+      → Holds ks gs m p (getD gs i 0) x → Holds ks gs (m + marks x) (p + size x) (i - 1) y → Two k x y e → Double ks gs m p i l e
   binary {x = x} {y = y} q b l r o = record { x = x; y = y; is = rw (b .node .kind) o; before = rw q (b .left); left = rw q l; right = r }
 
   pub leaf : {e : Re} → getD ks i 0 < 2 → Holds ks gs m p i e → Leaf p (getD ks i 0) (getD gs i 0) e
@@ -144,5 +145,14 @@ module _ {ks gs : List ℕ} {i : ℕ} (s : Held ks gs i) where
 
     pub held-right : Below (i - 1)
     held-right =
-        let v = double k k′ q (s .holds) in
-        (omega (arith, v .before), record { e = v .y; m = s .m + marks (v .x); p = s .p + size (v .x); holds = v .right; within = omega (arith, s .within); few = omega (arith, s .few, two-sizes (v .is) .size-is) })
+        let v = double k k′ q (s .holds) in (
+          omega (arith, v .before),
+          record {
+            e = v .y;
+            m = s .m + marks (v .x);
+            p = s .p + size (v .x);
+            holds = v .right;
+            within = omega (arith, s .within);
+            few = omega (arith, s .few, two-sizes (v .is) .size-is);
+          },
+        )

@@ -26,7 +26,7 @@ use Rattle.walks.specs.Tables.{Known, number, EndAt, endOf}
 use Rattle.walks.specs.Steps.{cursor, noted, Wrote, After}
 use Rattle.walks.specs.Enter.{openTo, Ready, Scanned, OnAt, TurnsAt}
 use Rattle.walks.specs.Resume.{Placed, ResumesAt, AgainAt}
-use Rattle.walks.proofs.Parts.{Leaf, leaf-eps, leaf-pos, One, one-branch, one-star, one-plus, one-opt, Two, two-cat, two-alt, one-sizes, two-sizes, leaf, single, double}
+use Rattle.walks.proofs.Parts.{Leaf, leaf-eps, leaf-pos, One, one-branch, one-star, one-plus, one-opt, Two, two-cat, two-alt, one-sizes, two-sizes, Single, leaf, single, double}
 use Rattle.walks.proofs.Written.{wrote-cursor, wrote-none, wrote-put, wrote-then, after-passed, after-stopped}
 use Rattle.walks.proofs.Looks.{goes-is, open-is}
 use Rattle.walks.proofs.Entering.{then-noted}
@@ -65,6 +65,10 @@ module _ {ks gs : List ℕ} {m p l v j : ℕ} {x : Re} (N : EndAt ks gs l v) (h 
 pub resume-short : (e : Re) (m p j : ℕ) (g : ℕ → Bool) (b : Bool) → In p e j → length (rowOf (resumeRun m p e j g b)) ≤ 4 * marks e
 resume-short e m p j g b h = omega (arith, resume-run-room m p e j g b h, spare-most (outOf (resumeRun m p e j g b)) (marks e))
 
+-- a position of a node with one part is one of its part
+in-part : {ks gs : List ℕ} {m p i j : ℕ} {e : Re} (s : Single ks gs m p i e) → In p e j → In p (s .x) j
+in-part s a = (a .0, omega (arith, a .1, one-sizes (s .is) .size-is))
+
 module _ {ks gs : List ℕ} {i j from : ℕ} (r : Placed ks gs i j from) where
   module _ (k : 3 < getD ks i 0) where
     pub placed-mark : getD gs i 0 < 128
@@ -74,14 +78,23 @@ module _ {ks gs : List ℕ} {i j from : ℕ} (r : Placed ks gs i j from) where
     placed-part =
         let v = single k (r .holds) in
         let n = one-sizes (v .is) in
-        record { e = v .x; m = suc (r .m); p = r .p; holds = v .part; within = omega (arith, r .within); inside = (r .inside .0, omega (arith, r .inside .1, n .size-is)); few = omega (arith, r .few, n .marks-are); room = omega (arith, r .room, n .marks-are) }
+        record {
+          e = v .x;
+          m = suc (r .m);
+          p = r .p;
+          holds = v .part;
+          within = omega (arith, r .within);
+          inside = in-part v (r .inside);
+          few = omega (arith, r .few, n .marks-are);
+          room = omega (arith, r .room, n .marks-are);
+        }
 
     module _ {goal : Set} {b : Bool} {t t₁ : List ℕ} {s : Step} (E : ResumesAt ks gs (i - 1) j goal b t t₁ from s) where
       cursor-part : cursor s + 4 ≤ from + 4 * marks (r .e)
       cursor-part =
           let v = single k (r .holds) in
           let n = one-sizes (v .is) in
-          let h : In (r .p) (v .x) j = (r .inside .0, omega (arith, r .inside .1, n .size-is)) in
+          let h = in-part v (r .inside) in
           omega (arith, n .marks-are, wrote-cursor (E .wrote (v .x) (suc (r .m)) (r .p) (v .part) h), resume-short (v .x) (suc (r .m)) (r .p) j (has goal) b h)
 
       pub placed-close : cursor s + 1 < 2 ^ 64
@@ -110,7 +123,16 @@ module _ {ks gs : List ℕ} {i j from : ℕ} (r : Placed ks gs i j from) where
         let d = double k k′ q (r .holds) in
         let n = two-sizes (d .is) in
         let b = on-right N (d .left) (r .inside .0) a in
-        record { e = d .y; m = r .m + marks (d .x); p = r .p + size (d .x); holds = d .right; within = omega (arith, r .within); inside = (b, omega (arith, r .inside .1, n .size-is)); few = omega (arith, r .few, n .marks-are); room = omega (arith, r .room, n .marks-are) }
+        record {
+          e = d .y;
+          m = r .m + marks (d .x);
+          p = r .p + size (d .x);
+          holds = d .right;
+          within = omega (arith, r .within);
+          inside = (b, omega (arith, r .inside .1, n .size-is));
+          few = omega (arith, r .few, n .marks-are);
+          room = omega (arith, r .room, n .marks-are);
+        }
 
     pub placed-on : {goal : Set} {b : Bool} {t t₁ : List ℕ} {s : Step} → j < v → ResumesAt ks gs l j goal b t t₁ from s → Ready ks gs (i - 1) (cursor s)
     placed-on {goal} {b} a E =
@@ -119,7 +141,15 @@ module _ {ks gs : List ℕ} {i j from : ℕ} (r : Placed ks gs i j from) where
         let h : In (r .p) (d .x) j = (r .inside .0, on-left N (d .left) (r .inside .0) a) in
         let w = E .wrote (d .x) (r .m) (r .p) (d .left) h in
         let f = resume-short (d .x) (r .m) (r .p) j (has goal) b h in
-        record { e = d .y; m = r .m + marks (d .x); p = r .p + size (d .x); holds = d .right; within = omega (arith, r .within); few = omega (arith, r .few); room = omega (arith, r .room, wrote-cursor w) }
+        record {
+          e = d .y;
+          m = r .m + marks (d .x);
+          p = r .p + size (d .x);
+          holds = d .right;
+          within = omega (arith, r .within);
+          few = omega (arith, r .few);
+          room = omega (arith, r .room, wrote-cursor w);
+        }
 
 -- ---- the run of a node
 
@@ -172,14 +202,18 @@ module _ {ks gs : List ℕ} {i j from : ℕ} (goal : Set) (pass : Bool) where
       wrote = λ e m p h a.
           let s = single k h in
           let f = goes-is T (omega arith) goal refl (s .part) in
-          rw (again-run m p j (has goal) pass (s .is) (sym z ∙ y), ← f, ← q) (wrote-then _ _ (E .wrote (s .x) (suc m) p (s .part) (a .0, omega (arith, a .1, one-sizes (s .is) .size-is))) (rw (← f) at (A .wrote (s .x) m p (s .part) (s .mark))));
+          let turn = E .wrote (s .x) (suc m) p (s .part) (in-part s a) in
+          let more = rw (← f) at (A .wrote (s .x) m p (s .part) (s .mark)) in
+          rw (again-run m p j (has goal) pass (s .is) (sym z ∙ y), ← f, ← q) (wrote-then _ _ turn more);
     }
 
-    pub resumes-close : {t t₁ t₂ : List ℕ} {s r : Step} → v ≡ false → ResumesAt ks gs (i - 1) j goal pass t t₁ from s → After s t₁ t₂ r (run ((128 + getD gs i 0) ∷ []) run-pass false) → ResumesAt ks gs i j goal pass t t₂ from r
+    pub resumes-close : {t t₁ t₂ : List ℕ} {s r : Step} → v ≡ false
+        → ResumesAt ks gs (i - 1) j goal pass t t₁ from s → After s t₁ t₂ r (run ((128 + getD gs i 0) ∷ []) run-pass false) → ResumesAt ks gs i j goal pass t t₂ from r
     resumes-close y E C = record {
       wrote = λ e m p h a.
           let s = single k h in
-          rw (close-run m p j (has goal) pass (s .is) (sym z ∙ y)) (wrote-then _ (closes m) (E .wrote (s .x) (suc m) p (s .part) (a .0, omega (arith, a .1, one-sizes (s .is) .size-is))) (rw (s .mark) at C));
+          let turn = E .wrote (s .x) (suc m) p (s .part) (in-part s a) in
+          rw (close-run m p j (has goal) pass (s .is) (sym z ∙ y)) (wrote-then _ (closes m) turn (rw (s .mark) at C));
     }
 
   module _ {l v : ℕ} (N : EndAt ks gs l v) (k : 2 ≤ getD ks i 0) (k′ : getD ks i 0 ≤ 3) (q : l ≡ getD gs i 0) where

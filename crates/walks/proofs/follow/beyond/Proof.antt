@@ -32,7 +32,12 @@ union-requires-2 c κs = search needs
 
 returns-3 : tie.Need-returns-3
 unfolding nextOf
-returns-3 c = λ q. rw (ne-eqb _ 2 (c .before .before .before .if1 .left), ← c .before .before .turns-again .ensures, c .before .if3 .taken, ← c .before .before .before .before .load .ensures) (c .union2 .ensures q)
+returns-3 c =
+    let loops = c .before in
+    let asked = loops .before in
+    let not-cat = asked .before in
+    let loaded = not-cat .before in
+    λ q. rw (ne-eqb _ 2 (not-cat .if1 .left), ← asked .turns-again .ensures, loops .if3 .taken, ← loaded .load .ensures) (c .union2 .ensures q)
 
 returns-4 : tie.Need-returns-4
 unfolding nextOf

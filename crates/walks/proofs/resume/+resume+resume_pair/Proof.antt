@@ -1,12 +1,15 @@
 -- `walks::resume::resume`, `walks::resume::resume_pair`: the contracts are met, since the node number falls. Assumes nothing.
 use mathlib.Core.Path.{_∙_}
-use Prim.Native.Nat.{_+_, _*_}
+use Prim.Native.Nat.{_+_, _-_, _*_}
 use native.Mathlib.Omega.{arith}
 use denote.Ref.{now}
-use Rattle.walks.specs.Tables.{EndAt}
+use Rattle.walks.specs.Tables.{Known, number, EndAt}
+use Rattle.walks.specs.Enter.{Scanned}
+use Rattle.walks.specs.Resume.{Placed}
 use Rattle.walks.proofs.Parts.{above}
 use Rattle.walks.proofs.Looks.{scanned-to}
-use Rattle.walks.proofs.Resuming.{end-read, placed-mark, placed-part, placed-close, placed-again, placed-below, placed-left, placed-right, placed-on, resumes-leaf, resumes-again, resumes-close, resumes-right, resumes-left, resumes-cat}
+use Rattle.walks.proofs.Resuming.{end-read, placed-mark, placed-part, placed-close, placed-again, placed-below, placed-left, placed-right, placed-on}
+use Rattle.walks.proofs.Resuming.{resumes-leaf, resumes-again, resumes-close, resumes-right, resumes-left, resumes-cat}
 use Prim.Native.Nat.{ℕ, _<_}
 use borrow.Fn.Kinds.{In}
 use borrow.Fn.PlainCycle.{Measures, is, falls, and}
@@ -45,17 +48,76 @@ abbrev resume-pair-below : ℕ → In 2 resume-pair-kinds.ps
 resume-pair-below t = and 2 resume-pair-kinds.ps (falls 2 resume-pair-kinds.ps _<_ μ-resume-pair t) resume-pair.Pre
 
 abbrev resume-claims : ℕ → resume-lts.Claims
-resume-claims t = (resume-pair-below t, resume-pair.Post, turns-again-reads.Asked, turns-again-reads.Learnt, goes-or-reads.Asked, goes-or-reads.Learnt, resume-below t, resume.Post, again-reads.Asked, again-reads.Learnt, close-reads.Asked, close-reads.Learnt)
+resume-claims t = (
+  resume-pair-below t,
+  resume-pair.Post,
+  turns-again-reads.Asked,
+  turns-again-reads.Learnt,
+  goes-or-reads.Asked,
+  goes-or-reads.Learnt,
+  resume-below t,
+  resume.Post,
+  again-reads.Asked,
+  again-reads.Learnt,
+  close-reads.Asked,
+  close-reads.Learnt,
+)
 
 abbrev resume-pair-claims : ℕ → resume-pair-lts.Claims
 resume-pair-claims t = (wide-reads.Asked, wide-reads.Learnt, resume-below t, resume.Post, open-to-reads.Asked, open-to-reads.Learnt, on-reads.Asked, on-reads.Learnt)
 
 module _ (t : ℕ) where
   -- where the positions of the left part end
-  ends : (c : resume-pair-lts.After-wide2 (resume-pair-claims t) (resume-pair-at t) resume-pair.Post) → EndAt (now (c .before .before .before .before .before .before .args .kind)) (now (c .before .before .before .before .before .before .args .arg)) (c .before .before .wide .result) (c .wide2 .result)
-  ends c = let s = c .before .before .before .before .before .before .pre .1 in
-      let k = s .1 .1 .1 in
-      end-read (now (c .before .before .before .before .before .before .args .upto)) (s .1 .1 .0) (placed-below (s .0) (k .0) (k .1) (c .before .before .wide .ensures) .0) (c .wide2 .ensures)
+  ends : (c : resume-pair-lts.After-wide2 (resume-pair-claims t) (resume-pair-at t) resume-pair.Post)
+      → let read = c .before .before in
+      let args = read .before .before .before .before .args in
+      EndAt (now (args .kind)) (now (args .arg)) (read .wide .result) (c .wide2 .result)
+  ends c =
+      let read = c .before .before in
+      let entry = read .before .before .before .before in
+      let kinds = entry .pre .1 .1 .1 .1 in
+      let below = placed-below (entry .pre .1 .0) (kinds .0) (kinds .1) (read .wide .ensures) .0 in
+      end-read (now (entry .args .upto)) (entry .pre .1 .1 .1 .0) below (c .wide2 .ensures)
+
+  -- what the walk on in the part of a node with one part asks
+  resume-part : (c : resume-lts.Else2 (resume-claims t) (resume-at t) resume.Post)
+      → let args = c .before .before .before .before .args in
+      (2 * (args .i - 1) + 1 < t)
+      × (Placed (now (args .kind)) (now (args .arg)) (args .i - 1) (args .j) (args .at)
+      × (Scanned (now (args .kind)) (now (args .arg)) (now (args .null)) (now (args .first)) (args .i - 1)
+      × Known number (EndAt (now (args .kind)) (now (args .arg))) (now (args .upto)) (args .i - 1)))
+  resume-part c =
+      let inner = c .before in
+      let entry = inner .before .before .before in
+      let placed = entry .pre .1 .0 in
+      let tables = entry .pre .1 .1 in (
+        omega (arith, entry .pre .0, above (inner .if1 .left) (placed .holds)),
+        (placed-part placed (c .if2 .left), (scanned-to (tables .0) (omega arith), λ n h. tables .1 n (omega arith))),
+      )
+
+  -- what the walk on in the left part asks
+  resume-pair-left : (c : resume-pair-lts.Else1 (resume-pair-claims t) (resume-pair-at t) resume-pair.Post)
+      → let read = c .before .before .before in
+      let args = read .before .before .before .before .args in
+      let left = read .wide .result in
+      (2 * left + 1 < t)
+      × (Placed (now (args .kind)) (now (args .arg)) left (args .j) (args .at)
+      × (Scanned (now (args .kind)) (now (args .arg)) (now (args .null)) (now (args .first)) left
+      × Known number (EndAt (now (args .kind)) (now (args .arg))) (now (args .upto)) left))
+  resume-pair-left c =
+      let ended = c .before in
+      let read = ended .before .before in
+      let entry = read .before .before .before .before in
+      let placed = entry .pre .1 .0 in
+      let tables = entry .pre .1 .1 in
+      let kinds = tables .1 .1 in
+      let below = placed-below placed (kinds .0) (kinds .1) (read .wide .ensures) .0 in (
+        omega (arith, entry .pre .0, below),
+        (
+          placed-left placed (ends ended) (kinds .0) (kinds .1) (read .wide .ensures) (c .if1 .left),
+          (scanned-to (tables .0) (omega arith), λ n h. tables .1 .0 n (omega arith)),
+        ),
+      )
 
   resume-element-copy-out-k : resume-lts.Need-element-copy-out-k (resume-claims t) (resume-at t) resume.Post
   resume-element-copy-out-k c = c .before .pre .1 .0 .within
@@ -64,7 +126,12 @@ module _ (t : ℕ) where
   resume-returns c = resumes-leaf _ _ (c .if1 .taken)
 
   resume-resume-pair-requires : resume-lts.Need-resume-pair-requires (resume-claims t) (resume-at t) resume.Post
-  resume-resume-pair-requires c κs = let s = c .before .before .before .before .before .pre in (omega (arith, s .0), (s .1 .0, (s .1 .1 .0, (s .1 .1 .1, (c .before .before .if1 .left, c .before .if2 .taken)))))
+  resume-resume-pair-requires c κs =
+      let pair = c .before in
+      let inner = pair .before in
+      let entry = inner .before .before .before in
+      let asked = entry .pre .1 in
+      (omega (arith, entry .pre .0), (asked .0, (asked .1 .0, (asked .1 .1, (inner .if1 .left, pair .if2 .taken)))))
 
   resume-same-length : resume-lts.Need-same-length (resume-claims t) (resume-at t) resume.Post
   resume-same-length c = c .before .before .resume-pair .kept .1 .1 .1 .1 .1 .1 .1 .1 .1 .0
@@ -85,31 +152,78 @@ module _ (t : ℕ) where
   resume-turns-again-requires c κs = tt
 
   resume-goes-or-requires : resume-lts.Need-goes-or-requires (resume-claims t) (resume-at t) resume.Post
-  resume-goes-or-requires c κs = let s = c .before .before .before .before .before .before .before .pre .1 in omega (arith, s .0 .within, s .1 .0 .long)
+  resume-goes-or-requires c κs =
+      let one = c .before .before .before in
+      let asked = one .before .before .before .before .pre .1 in
+      omega (arith, asked .0 .within, asked .1 .0 .long)
 
   resume-resume-requires : resume-lts.Need-resume-requires (resume-claims t) (resume-at t) resume.Post
-  resume-resume-requires c κs = let s = c .before .before .before .before .before .before .before .before .before .pre in (omega (arith, s .0, above (c .before .before .before .before .before .before .if1 .left) (s .1 .0 .holds)), (placed-part (s .1 .0) (c .before .before .before .before .before .if2 .left), (scanned-to (s .1 .1 .0) (omega arith), λ n h. s .1 .1 .1 n (omega arith))))
+  resume-resume-requires c κs = resume-part (c .before .before .before .before .before)
 
   resume-again-requires : resume-lts.Need-again-requires (resume-claims t) (resume-at t) resume.Post
-  resume-again-requires c κs = let s = c .before .before .before .before .before .before .before .before .before .before .before .before .before .pre .1 in ((placed-again (s .0) (c .before .before .before .before .before .before .before .before .before .if2 .left) (c .before .before .before .resume .ensures), placed-mark (s .0) (c .before .before .before .before .before .before .before .before .before .if2 .left)), scanned-to (s .1 .0) (omega arith))
+  resume-again-requires c κs =
+      let resumed = c .before .before .before in
+      let one = resumed .before .before .before .before .before .before in
+      let entry = one .before .before .before .before in
+      let placed = entry .pre .1 .0 in (
+        (placed-again placed (one .if2 .left) (resumed .resume .ensures), placed-mark placed (one .if2 .left)),
+        scanned-to (entry .pre .1 .1 .0) (omega arith),
+      )
 
   resume-same-length-2 : resume-lts.Need-same-length-2 (resume-claims t) (resume-at t) resume.Post
-  resume-same-length-2 c = c .before .before .again .kept .1 .1 .1 .1 .1 .1 .1 .1 .0 ∙ c .before .before .before .before .before .before .resume .kept .1 .1 .1 .1 .1 .1 .1 .1 .1 .0
+  resume-same-length-2 c =
+      let turned = c .before .before in
+      let resumed = turned .before .before .before .before in
+      turned .again .kept .1 .1 .1 .1 .1 .1 .1 .1 .0 ∙ resumed .resume .kept .1 .1 .1 .1 .1 .1 .1 .1 .1 .0
 
   resume-returns-3 : resume-lts.Need-returns-3 (resume-claims t) (resume-at t) resume.Post
-  resume-returns-3 c = resumes-again _ _ (c .before .before .before .before .before .before .before .before .before .before .before .before .if2 .left) (c .before .before .before .before .before .before .before .before .before .before .turns-again .ensures) (c .before .before .before .before .before .before .before .before .before .before .before .before .before .before .before .before .pre .1 .1 .0) (c .before .before .before .before .before .before .before .before .before .if3 .taken) (c .before .before .before .before .before .before .before .before .goes-or .ensures) (c .before .before .before .before .before .before .resume .ensures) (c .before .before .again .ensures)
+  resume-returns-3 c =
+      let turned = c .before .before in
+      let resumed = turned .before .before .before .before in
+      let looked = resumed .before .before in
+      let loops = looked .before in
+      let asked = loops .before in
+      let one = asked .before .before in
+      let entry = one .before .before .before .before in
+      resumes-again _ _
+      (one .if2 .left)
+      (asked .turns-again .ensures)
+      (entry .pre .1 .1 .0)
+      (loops .if3 .taken)
+      (looked .goes-or .ensures)
+      (resumed .resume .ensures)
+      (turned .again .ensures)
 
   resume-resume-requires-2 : resume-lts.Need-resume-requires-2 (resume-claims t) (resume-at t) resume.Post
-  resume-resume-requires-2 c κs = let s = c .before .before .before .before .before .before .before .before .pre in (omega (arith, s .0, above (c .before .before .before .before .before .if1 .left) (s .1 .0 .holds)), (placed-part (s .1 .0) (c .before .before .before .before .if2 .left), (scanned-to (s .1 .1 .0) (omega arith), λ n h. s .1 .1 .1 n (omega arith))))
+  resume-resume-requires-2 c κs = resume-part (c .before .before .before .before)
 
   resume-close-requires : resume-lts.Need-close-requires (resume-claims t) (resume-at t) resume.Post
-  resume-close-requires c κs = (placed-close (c .before .before .before .before .before .before .before .before .before .before .before .before .pre .1 .0) (c .before .before .before .before .before .before .before .before .if2 .left) (c .before .before .before .resume2 .ensures), placed-mark (c .before .before .before .before .before .before .before .before .before .before .before .before .pre .1 .0) (c .before .before .before .before .before .before .before .before .if2 .left))
+  resume-close-requires c κs =
+      let resumed = c .before .before .before in
+      let one = resumed .before .before .before .before .before in
+      let entry = one .before .before .before .before in
+      let placed = entry .pre .1 .0 in
+      (placed-close placed (one .if2 .left) (resumed .resume2 .ensures), placed-mark placed (one .if2 .left))
 
   resume-same-length-3 : resume-lts.Need-same-length-3 (resume-claims t) (resume-at t) resume.Post
-  resume-same-length-3 c = c .before .before .close .kept .0 ∙ c .before .before .before .before .before .before .resume2 .kept .1 .1 .1 .1 .1 .1 .1 .1 .1 .0
+  resume-same-length-3 c =
+      let closed = c .before .before in
+      let resumed = closed .before .before .before .before in
+      closed .close .kept .0 ∙ resumed .resume2 .kept .1 .1 .1 .1 .1 .1 .1 .1 .1 .0
 
   resume-returns-4 : resume-lts.Need-returns-4 (resume-claims t) (resume-at t) resume.Post
-  resume-returns-4 c = resumes-close _ _ (c .before .before .before .before .before .before .before .before .before .before .before .if2 .left) (c .before .before .before .before .before .before .before .before .before .turns-again .ensures) (c .before .before .before .before .before .before .before .before .if3 .left) (c .before .before .before .before .before .before .resume2 .ensures) (c .before .before .close .ensures)
+  resume-returns-4 c =
+      let closed = c .before .before in
+      let resumed = closed .before .before .before .before in
+      let once = resumed .before .before in
+      let asked = once .before in
+      let one = asked .before .before in
+      resumes-close _ _
+      (one .if2 .left)
+      (asked .turns-again .ensures)
+      (once .if3 .left)
+      (resumed .resume2 .ensures)
+      (closed .close .ensures)
 
   resume-pair-element-copy-out-k : resume-pair-lts.Need-element-copy-out-k (resume-pair-claims t) (resume-pair-at t) resume-pair.Post
   resume-pair-element-copy-out-k c = c .before .pre .1 .0 .within
@@ -126,58 +240,143 @@ module _ (t : ℕ) where
   resume-pair-sub-right : resume-pair-lts.Need-sub-right (resume-pair-claims t) (resume-pair-at t) resume-pair.Post
   resume-pair-sub-right c = let s = c .before .before .before .before .pre .1 in omega (arith, above (s .1 .1 .1 .0) (s .0 .holds))
 
+  -- the left part stands in the arrays
+  resume-pair-inside : (c : resume-pair-lts.After-wide (resume-pair-claims t) (resume-pair-at t) resume-pair.Post) → c .wide .result < 1024
+  resume-pair-inside c =
+      let asked = c .before .before .before .before .pre .1 in
+      let kinds = asked .1 .1 .1 in
+      placed-below (asked .0) (kinds .0) (kinds .1) (c .wide .ensures) .1
+
   resume-pair-mul-wide-2 : resume-pair-lts.Need-mul-wide-2 (resume-pair-claims t) (resume-pair-at t) resume-pair.Post
-  resume-pair-mul-wide-2 c = let s = c .before .before .before .before .pre .1 in let k = s .1 .1 .1 in omega (arith, placed-below (s .0) (k .0) (k .1) (c .wide .ensures) .1)
+  resume-pair-mul-wide-2 c = omega (arith, resume-pair-inside c)
 
   resume-pair-element-copy-out-wide-2 : resume-pair-lts.Need-element-copy-out-wide-2 (resume-pair-claims t) (resume-pair-at t) resume-pair.Post
-  resume-pair-element-copy-out-wide-2 c = let s = c .before .before .before .before .pre .1 in let k = s .1 .1 .1 in placed-below (s .0) (k .0) (k .1) (c .wide .ensures) .1
+  resume-pair-element-copy-out-wide-2 c = resume-pair-inside c
 
   resume-pair-wide-requires-2 : resume-pair-lts.Need-wide-requires-2 (resume-pair-claims t) (resume-pair-at t) resume-pair.Post
   resume-pair-wide-requires-2 c κs = tt
 
   resume-pair-resume-requires : resume-pair-lts.Need-resume-requires (resume-pair-claims t) (resume-pair-at t) resume-pair.Post
-  resume-pair-resume-requires c κs = let s = c .before .before .before .before .before .before .before .before .pre in
-      let k = s .1 .1 .1 .1 in
-      (omega (arith, s .0, above (k .0) (s .1 .0 .holds)), (placed-right (s .1 .0) (ends (c .before .before)) (k .0) (k .1) (c .before .before .before .before .wide .ensures) (c .before .if1 .taken), (scanned-to (s .1 .1 .0) (omega arith), λ n h. s .1 .1 .1 .0 n (omega arith))))
+  resume-pair-resume-requires c κs =
+      let right = c .before in
+      let ended = right .before in
+      let read = ended .before .before in
+      let entry = read .before .before .before .before in
+      let placed = entry .pre .1 .0 in
+      let tables = entry .pre .1 .1 in
+      let kinds = tables .1 .1 in (
+        omega (arith, entry .pre .0, above (kinds .0) (placed .holds)),
+        (
+          placed-right placed (ends ended) (kinds .0) (kinds .1) (read .wide .ensures) (right .if1 .taken),
+          (scanned-to (tables .0) (omega arith), λ n h. tables .1 .0 n (omega arith)),
+        ),
+      )
 
   resume-pair-same-length : resume-pair-lts.Need-same-length (resume-pair-claims t) (resume-pair-at t) resume-pair.Post
   resume-pair-same-length c = c .before .before .resume .kept .1 .1 .1 .1 .1 .1 .1 .1 .1 .0
 
   resume-pair-returns : resume-pair-lts.Need-returns (resume-pair-claims t) (resume-pair-at t) resume-pair.Post
-  resume-pair-returns c = let s = c .before .before .before .before .before .before .before .before .before .before .before .pre .1 .1 .1 .1 in resumes-right _ _ (ends (c .before .before .before .before .before)) (s .0) (s .1) (c .before .before .before .before .before .before .before .wide .ensures) (c .before .before .before .before .if1 .taken) (c .before .before .resume .ensures)
+  resume-pair-returns c =
+      let resumed = c .before .before in
+      let right = resumed .before .before in
+      let ended = right .before in
+      let read = ended .before .before in
+      let entry = read .before .before .before .before in
+      let kinds = entry .pre .1 .1 .1 .1 in
+      resumes-right _ _ (ends ended) (kinds .0) (kinds .1) (read .wide .ensures) (right .if1 .taken) (resumed .resume .ensures)
 
   resume-pair-resume-requires-2 : resume-pair-lts.Need-resume-requires-2 (resume-pair-claims t) (resume-pair-at t) resume-pair.Post
-  resume-pair-resume-requires-2 c κs = let s = c .before .before .before .before .before .before .before .before .before .pre in
-      let k = s .1 .1 .1 .1 in
-      let b = placed-below (s .1 .0) (k .0) (k .1) (c .before .before .before .before .before .wide .ensures) .0 in
-      (omega (arith, s .0, b), (placed-left (s .1 .0) (ends (c .before .before .before)) (k .0) (k .1) (c .before .before .before .before .before .wide .ensures) (c .before .before .if1 .left), (scanned-to (s .1 .1 .0) (omega arith), λ n h. s .1 .1 .1 .0 n (omega arith))))
+  resume-pair-resume-requires-2 c κs = resume-pair-left (c .before .before)
 
   resume-pair-same-length-2 : resume-pair-lts.Need-same-length-2 (resume-pair-claims t) (resume-pair-at t) resume-pair.Post
   resume-pair-same-length-2 c = c .before .before .resume2 .kept .1 .1 .1 .1 .1 .1 .1 .1 .1 .0
 
   resume-pair-returns-2 : resume-pair-lts.Need-returns-2 (resume-pair-claims t) (resume-pair-at t) resume-pair.Post
-  resume-pair-returns-2 c = let s = c .before .before .before .before .before .before .before .before .before .before .before .before .pre .1 .1 .1 .1 in resumes-left _ _ (ends (c .before .before .before .before .before .before)) (s .0) (s .1) (c .before .before .before .before .before .before .before .before .wide .ensures) (c .before .before .before .before .before .if1 .left) (c .before .before .before .before .if2 .taken) (c .before .before .resume2 .ensures)
+  resume-pair-returns-2 c =
+      let resumed = c .before .before in
+      let alt = resumed .before .before in
+      let left = alt .before in
+      let ended = left .before in
+      let read = ended .before .before in
+      let entry = read .before .before .before .before in
+      let kinds = entry .pre .1 .1 .1 .1 in
+      resumes-left _ _
+      (ends ended)
+      (kinds .0)
+      (kinds .1)
+      (read .wide .ensures)
+      (left .if1 .left)
+      (alt .if2 .taken)
+      (resumed .resume2 .ensures)
 
   resume-pair-open-to-requires : resume-pair-lts.Need-open-to-requires (resume-pair-claims t) (resume-pair-at t) resume-pair.Post
-  resume-pair-open-to-requires c κs = let s = c .before .before .before .before .before .before .before .before .pre .1 in (omega (arith, s .0 .within, s .1 .0 .long), omega (arith, s .0 .within))
+  resume-pair-open-to-requires c κs =
+      let read = c .before .before .before .before in
+      let asked = read .before .before .before .before .pre .1 in
+      (omega (arith, asked .0 .within, asked .1 .0 .long), omega (arith, asked .0 .within))
 
   resume-pair-resume-requires-3 : resume-pair-lts.Need-resume-requires-3 (resume-pair-claims t) (resume-pair-at t) resume-pair.Post
-  resume-pair-resume-requires-3 c κs = let s = c .before .before .before .before .before .before .before .before .before .before .pre in
-      let k = s .1 .1 .1 .1 in
-      let b = placed-below (s .1 .0) (k .0) (k .1) (c .before .before .before .before .before .before .wide .ensures) .0 in
-      (omega (arith, s .0, b), (placed-left (s .1 .0) (ends (c .before .before .before .before)) (k .0) (k .1) (c .before .before .before .before .before .before .wide .ensures) (c .before .before .before .if1 .left), (scanned-to (s .1 .1 .0) (omega arith), λ n h. s .1 .1 .1 .0 n (omega arith))))
+  resume-pair-resume-requires-3 c κs = resume-pair-left (c .before .before .before)
 
   resume-pair-on-requires : resume-pair-lts.Need-on-requires (resume-pair-claims t) (resume-pair-at t) resume-pair.Post
-  resume-pair-on-requires c κs = let s = c .before .before .before .before .before .before .before .before .before .before .before .before .before .before .pre .1 in
-      let k = s .1 .1 .1 in
-      (placed-on (s .0) (ends (c .before .before .before .before .before .before .before .before)) (k .0) (k .1) (c .before .before .before .before .before .before .before .before .before .before .wide .ensures) (c .before .before .before .before .before .before .before .if1 .left) (c .before .before .before .resume3 .ensures), scanned-to (s .1 .0) (omega arith))
+  resume-pair-on-requires c κs =
+      let resumed = c .before .before .before in
+      let left = resumed .before .before .before .before in
+      let ended = left .before in
+      let read = ended .before .before in
+      let entry = read .before .before .before .before in
+      let kinds = entry .pre .1 .1 .1 .1 in (
+        placed-on
+            (entry .pre .1 .0)
+            (ends ended)
+            (kinds .0)
+            (kinds .1)
+            (read .wide .ensures)
+            (left .if1 .left)
+            (resumed .resume3 .ensures),
+        scanned-to (entry .pre .1 .1 .0) (omega arith),
+      )
 
   resume-pair-same-length-3 : resume-pair-lts.Need-same-length-3 (resume-pair-claims t) (resume-pair-at t) resume-pair.Post
-  resume-pair-same-length-3 c = c .before .before .on .kept .1 .1 .1 .1 .1 .1 .1 .0 ∙ c .before .before .before .before .before .before .resume3 .kept .1 .1 .1 .1 .1 .1 .1 .1 .1 .0
+  resume-pair-same-length-3 c =
+      let went-on = c .before .before in
+      let resumed = went-on .before .before .before .before in
+      went-on .on .kept .1 .1 .1 .1 .1 .1 .1 .0 ∙ resumed .resume3 .kept .1 .1 .1 .1 .1 .1 .1 .1 .1 .0
 
   resume-pair-returns-3 : resume-pair-lts.Need-returns-3 (resume-pair-claims t) (resume-pair-at t) resume-pair.Post
-  resume-pair-returns-3 c = let s = c .before .before .before .before .before .before .before .before .before .before .before .before .before .before .before .before .before .pre .1 .1 in resumes-cat _ _ (ends (c .before .before .before .before .before .before .before .before .before .before .before)) (s .1 .1 .0) (s .1 .1 .1) (c .before .before .before .before .before .before .before .before .before .before .before .before .before .wide .ensures) (c .before .before .before .before .before .before .before .before .before .before .if1 .left) (s .0) (c .before .before .before .before .before .before .before .before .before .if2 .left) (c .before .before .before .before .before .before .before .before .open-to .ensures) (c .before .before .before .before .before .before .resume3 .ensures) (c .before .before .on .ensures)
+  resume-pair-returns-3 c =
+      let went-on = c .before .before in
+      let resumed = went-on .before .before .before .before in
+      let looked = resumed .before .before in
+      let cat = looked .before in
+      let left = cat .before in
+      let ended = left .before in
+      let read = ended .before .before in
+      let entry = read .before .before .before .before in
+      let kinds = entry .pre .1 .1 .1 .1 in
+      resumes-cat _ _
+      (ends ended)
+      (kinds .0)
+      (kinds .1)
+      (read .wide .ensures)
+      (left .if1 .left)
+      (entry .pre .1 .1 .0)
+      (cat .if2 .left)
+      (looked .open-to .ensures)
+      (resumed .resume3 .ensures)
+      (went-on .on .ensures)
 
 pub +resume+resume-pair-spec : {M : Type 1} → statement M
-+resume+resume-pair-spec = close μ-resume μ-resume-pair (λ t. resume-lts.spec (resume-claims t) (resume-at t) resume.Post (resume-element-copy-out-k t) (resume-returns t) (resume-resume-pair-requires t) (resume-same-length t) (resume-returns-2 t) (resume-sub-part t) (resume-mul-mark t) (resume-element-copy-out-mark t) (resume-turns-again-requires t) (resume-goes-or-requires t) (resume-resume-requires t) (resume-again-requires t) (resume-same-length-2 t) (resume-returns-3 t) (resume-resume-requires-2 t) (resume-close-requires t) (resume-same-length-3 t) (resume-returns-4 t))
-    λ t. resume-pair-lts.spec (resume-pair-claims t) (resume-pair-at t) resume-pair.Post (resume-pair-element-copy-out-k t) (resume-pair-mul-wide t) (resume-pair-element-copy-out-wide t) (resume-pair-wide-requires t) (resume-pair-sub-right t) (resume-pair-mul-wide-2 t) (resume-pair-element-copy-out-wide-2 t) (resume-pair-wide-requires-2 t) (resume-pair-resume-requires t) (resume-pair-same-length t) (resume-pair-returns t) (resume-pair-resume-requires-2 t) (resume-pair-same-length-2 t) (resume-pair-returns-2 t) (resume-pair-open-to-requires t) (resume-pair-resume-requires-3 t) (resume-pair-on-requires t) (resume-pair-same-length-3 t) (resume-pair-returns-3 t)
++resume+resume-pair-spec =
+    close μ-resume μ-resume-pair
+    (λ t. resume-lts.spec (resume-claims t) (resume-at t) resume.Post
+    (resume-element-copy-out-k t) (resume-returns t) (resume-resume-pair-requires t) (resume-same-length t) (resume-returns-2 t)
+    (resume-sub-part t) (resume-mul-mark t) (resume-element-copy-out-mark t) (resume-turns-again-requires t)
+    (resume-goes-or-requires t) (resume-resume-requires t) (resume-again-requires t) (resume-same-length-2 t) (resume-returns-3 t)
+    (resume-resume-requires-2 t) (resume-close-requires t) (resume-same-length-3 t) (resume-returns-4 t))
+    λ t. resume-pair-lts.spec (resume-pair-claims t) (resume-pair-at t) resume-pair.Post
+    (resume-pair-element-copy-out-k t) (resume-pair-mul-wide t) (resume-pair-element-copy-out-wide t) (resume-pair-wide-requires t)
+    (resume-pair-sub-right t) (resume-pair-mul-wide-2 t) (resume-pair-element-copy-out-wide-2 t) (resume-pair-wide-requires-2 t)
+    (resume-pair-resume-requires t) (resume-pair-same-length t) (resume-pair-returns t) (resume-pair-resume-requires-2 t)
+    (resume-pair-same-length-2 t) (resume-pair-returns-2 t) (resume-pair-open-to-requires t) (resume-pair-resume-requires-3 t)
+    (resume-pair-on-requires t) (resume-pair-same-length-3 t) (resume-pair-returns-3 t)

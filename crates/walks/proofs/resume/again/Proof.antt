@@ -14,10 +14,17 @@ add-put : tie.Need-add-put
 add-put c = search needs
 
 put-requires : tie.Need-put-requires
-put-requires c κs = omega (arith, ap cursor (c .before .before .s .given .1), c .before .before .before .before .before .pre .0 .0 .room)
+put-requires c κs =
+    let passed = c .before .before in
+    let entry = passed .before .before .before in
+    omega (arith, ap cursor (passed .s .given .1), entry .pre .0 .0 .room)
 
 turn-requires : tie.Need-turn-requires
-turn-requires c κs = (rw (ap cursor (c .before .before .before .before .before .before .s .given .1), ← c .before .before .before .put .ensures .0) at (c .before .before .before .before .before .before .before .before .before .pre .0 .0), c .before .before .before .before .before .before .before .before .before .pre .1)
+turn-requires c κs =
+    let closed = c .before .before .before in
+    let passed = closed .before .before .before in
+    let entry = passed .before .before .before in
+    (rw (ap cursor (passed .s .given .1), ← closed .put .ensures .0) at (entry .pre .0 .0), entry .pre .1)
 
 also-requires : tie.Need-also-requires
 also-requires c κs = search needs
@@ -29,7 +36,16 @@ same-length : tie.Need-same-length
 same-length c = search needs
 
 returns : tie.Need-returns
-returns c = again-passed (c .before .before .before .before .before .before .before .before .before .before .s .given .1) (c .before .before .before .before .before .before .before .put .ensures .0) (c .before .before .before .before .before .before .before .put .ensures .1) (c .before .before .before .turn .ensures) (c .also .ensures)
+returns c =
+    let turned = c .before .before .before in
+    let closed = turned .before .before .before .before in
+    let passed = closed .before .before .before in
+    again-passed
+    (passed .s .given .1)
+    (closed .put .ensures .0)
+    (closed .put .ensures .1)
+    (turned .turn .ensures)
+    (c .also .ensures)
 
 returns-2 : tie.Need-returns-2
 returns-2 c = again-stopped _ (c .before .s2 .given .1)
