@@ -43,14 +43,16 @@ module _ {ks gs : List ℕ} {u p i : ℕ} {e : Re} (h : Lies ks gs u p i e) wher
   pub lies-kind : {k : ℕ} → Shape k e → getD ks i 0 ≡ k
   lies-kind {k} (leaf l n m x a) = stands-end i [] k (omega (arith, h .last, n)) (rw x at (h .kinds))
   lies-kind {k} (pair {x = x} {y = y} l g b) =
-      stands-end i (kinds y) k (omega (arith, h .last, b .node, kinds-length y)) (stands-behind (nodes x) (kinds x) (kinds y ++ (k ∷ [])) (kinds-length x) (rw (b .kind) at (h .kinds)))
+      let behind = stands-behind (nodes x) (kinds x) (kinds y ++ (k ∷ [])) (kinds-length x) (rw (b .kind) at (h .kinds)) in
+      stands-end i (kinds y) k (omega (arith, h .last, b .node, kinds-length y)) behind
   lies-kind {k} (over {x = x} l o) = stands-end i (kinds x) k (omega (arith, h .last, o .node, kinds-length x)) (rw (o .kind) at (h .kinds))
 
   module _ {k : ℕ} {x y : Re} (b : Both k x y e) where
     pub lies-arg : getD gs i 0 + 1 ≡ u + nodes x
     lies-arg =
-        let r = stands-end i (bare-args (u + nodes x) (p + size x) y) (node-of u x) (omega (arith, h .last, b .node, length-bare-args (u + nodes x) (p + size x) y))
-        (stands-behind (nodes x) (bare-args u p x) (bare-args (u + nodes x) (p + size x) y ++ (node-of u x ∷ [])) (length-bare-args u p x) (rw (b .bare u p) at (h .args))) in
+        let rest = bare-args (u + nodes x) (p + size x) y in
+        let behind = stands-behind (nodes x) (bare-args u p x) (rest ++ (node-of u x ∷ [])) (length-bare-args u p x) (rw (b .bare u p) at (h .args)) in
+        let r = stands-end i rest (node-of u x) (omega (arith, h .last, b .node, length-bare-args (u + nodes x) (p + size x) y)) behind in
         omega (arith, r, nodes-some x)
 
     pub lies-left : Lies ks gs u p (getD gs i 0) x
@@ -62,12 +64,16 @@ module _ {ks gs : List ℕ} {u p i : ℕ} {e : Re} (h : Lies ks gs u p i e) wher
     }
 
     pub lies-right : Lies ks gs (u + nodes x) (p + size x) (i - 1) y
-    lies-right = record {
-      kinds = stands-left (kinds y) (k ∷ []) (stands-behind (nodes x) (kinds x) (kinds y ++ (k ∷ [])) (kinds-length x) (rw (b .kind) at (h .kinds)));
-      args = stands-left (bare-args (u + nodes x) (p + size x) y) (node-of u x ∷ []) (stands-behind (nodes x) (bare-args u p x) (bare-args (u + nodes x) (p + size x) y ++ (node-of u x ∷ [])) (length-bare-args u p x) (rw (b .bare u p) at (h .args)));
-      last = omega (arith, h .last, b .node, nodes-some y);
-      inside = omega (arith, h .inside);
-    }
+    lies-right =
+        let rest = bare-args (u + nodes x) (p + size x) y in
+        let kinds-behind = stands-behind (nodes x) (kinds x) (kinds y ++ (k ∷ [])) (kinds-length x) (rw (b .kind) at (h .kinds)) in
+        let args-behind = stands-behind (nodes x) (bare-args u p x) (rest ++ (node-of u x ∷ [])) (length-bare-args u p x) (rw (b .bare u p) at (h .args)) in
+        record {
+          kinds = stands-left (kinds y) (k ∷ []) kinds-behind;
+          args = stands-left rest (node-of u x ∷ []) args-behind;
+          last = omega (arith, h .last, b .node, nodes-some y);
+          inside = omega (arith, h .inside);
+        }
 
   pub lies-inner : {k : ℕ} {x : Re} → Over k x e → Lies ks gs u p (i - 1) x
   lies-inner {k} {x} o = record {

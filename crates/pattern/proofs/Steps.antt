@@ -9,7 +9,9 @@ use Rattle.sets.specs.declared.class.Class.{Class}
 use Rattle.meaning.specs.Expression.{Re, eps, pos, cat, alt, branch, star, plus, opt}
 use Rattle.grammar.specs.Machine.{Sign, is-star, is-plus, is-opt}
 use Rattle.grammar.specs.ByteTests as tests
-use Rattle.grammar.specs.Contract.{Atom-done, Item-done, Branch-done, Fronts-done, List-done, atom-unit, atom-group, item-signed, item-bare, branch-first, branch-more, fronts-first, fronts-more, list-lone, list-several, Item-bad, Branch-bad, List-bad, atom-group-bad, atom-group-open, list-next-bad}
+use Rattle.grammar.specs.Contract.{Atom-done, Item-done, Branch-done, Fronts-done, List-done, Item-bad, Branch-bad, List-bad}
+use Rattle.grammar.specs.Contract.{atom-unit, atom-group, item-signed, item-bare, branch-first, branch-more, fronts-first, fronts-more, list-lone, list-several}
+use Rattle.grammar.specs.Contract.{atom-group-bad, atom-group-open, list-next-bad}
 use Rattle.pattern.specs.Stores.{Stores, stores, Put, Keeps, Became, Wrote, Moved, Within}
 use Rattle.pattern.specs.Letters.{Letter-to, Position-done}
 use Rattle.pattern.specs.Parts.{Byte-at, End, of-text, by-bar, by-close, Signed, star-at, plus-at, opt-at, none-at, Read-to, Fronts-at}

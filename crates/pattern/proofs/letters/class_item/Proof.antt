@@ -36,26 +36,35 @@ returns : tie.Need-returns
 returns c = range-bad-low (rw (c .before .k .given .1) at (c .before .before .before .class-byte .ensures))
 
 returns-2 : tie.Need-returns-2
-returns-2 c = let a = rw (c .before .before .before .before .before .before .before .before .c .given .1) at (c .before .before .before .before .before .before .before .before .before .before .class-byte .ensures) in
-    range-bad-high (a .0) (c .before .before .before .before .before .before .if1 .taken) (c .before .before .before .before .if2 .taken) (rw (c .before .k2 .given .1) at (c .before .before .before .class-byte2 .ensures))
+returns-2 c = let dash = c .before .before .before .before in let read = dash .before .before .before in
+    let low = rw (read .before .c .given .1) at (read .before .before .before .class-byte .ensures) in
+    let bad = rw (c .before .k2 .given .1) at (c .before .before .before .class-byte2 .ensures) in
+    range-bad-high (low .0) (dash .before .before .if1 .taken) (dash .if2 .taken) bad
 
 returns-3 : tie.Need-returns-3
-returns-3 c = let a = rw (c .before .before .before .before .before .before .before .before .before .c .given .1) at (c .before .before .before .before .before .before .before .before .before .before .before .class-byte .ensures) in
-    let h = rw (c .before .before .d .given .1) at (c .before .before .before .before .class-byte2 .ensures) in
-    range-bad-order (a .0) (c .before .before .before .before .before .before .before .if1 .taken) (c .before .before .before .before .before .if2 .taken) (h .0) (c .if3 .taken) (omega (arith, h .1))
+returns-3 c = let dash = c .before .before .before .before .before in let read = dash .before .before .before in
+    let low = rw (read .before .c .given .1) at (read .before .before .before .class-byte .ensures) in
+    let high = rw (c .before .before .d .given .1) at (c .before .before .before .before .class-byte2 .ensures) in
+    range-bad-order (low .0) (dash .before .before .if1 .taken) (dash .if2 .taken) (high .0) (c .if3 .taken) (omega (arith, high .1))
 
 returns-4 : tie.Need-returns-4
-returns-4 c = let a = rw (c .before .before .before .before .before .before .before .before .before .c .given .1) at (c .before .before .before .before .before .before .before .before .before .before .before .class-byte .ensures) in
-    let h = rw (c .before .before .d .given .1) at (c .before .before .before .before .class-byte2 .ensures) in
-    record { done = range-span (a .0) (c .before .before .before .before .before .before .before .if1 .taken) (c .before .before .before .before .before .if2 .taken) (h .0) (c .if3 .left); on = record { on = omega (arith, h .1, a .1); inside = h .1 .inside } }
+returns-4 c = let dash = c .before .before .before .before .before in let read = dash .before .before .before in
+    let low = rw (read .before .c .given .1) at (read .before .before .before .class-byte .ensures) in
+    let high = rw (c .before .before .d .given .1) at (c .before .before .before .before .class-byte2 .ensures) in
+    record {
+      done = range-span (low .0) (dash .before .before .if1 .taken) (dash .if2 .taken) (high .0) (c .if3 .left);
+      on = record { on = omega (arith, high .1, low .1); inside = high .1 .inside };
+    }
 
 returns-5 : tie.Need-returns-5
-returns-5 c = let a = rw (c .before .before .before .before .c .given .1) at (c .before .before .before .before .before .before .class-byte .ensures) in
-    record { done = range-single (a .0) (λ l e. c .if2 .left e); on = a .1 }
+returns-5 c = let read = c .before .before .before in
+    let low = rw (read .before .c .given .1) at (read .before .before .before .class-byte .ensures) in
+    record { done = range-single (low .0) (λ l e. c .if2 .left e); on = low .1 }
 
 returns-6 : tie.Need-returns-6
-returns-6 c = let a = rw (c .before .before .c .given .1) at (c .before .before .before .before .class-byte .ensures) in
-    record { done = range-single (a .0) (λ l e. absurd (omega (arith, c .if1 .left, l))); on = a .1 }
+returns-6 c = let read = c .before in
+    let low = rw (read .before .c .given .1) at (read .before .before .before .class-byte .ensures) in
+    record { done = range-single (low .0) (λ l e. absurd (omega (arith, c .if1 .left, l))); on = low .1 }
 
 pub class-item-spec : {M : Type 1} → statement M
 class-item-spec =

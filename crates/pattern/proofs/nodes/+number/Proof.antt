@@ -41,26 +41,35 @@ number-element-copy-out-left t c = omega (arith, c .before .before .before .pre 
 
 number-cast-left :
     (t : ℕ) → number-lts.Need-cast-left (number-below t, number.Post) (number-at t) number.Post
-number-cast-left t c = let s = splits (c .before .before .before .before .pre .1) (c .before .before .if1 .left) (c .before .if2 .taken) in omega (arith, s .above, c .before .before .before .before .pre .1 .lies .inside)
+number-cast-left t c = let test = c .before in let entry = test .before .before .before in
+    let s = splits (entry .pre .1) (test .before .if1 .left) (test .if2 .taken) in
+    omega (arith, s .above, entry .pre .1 .lies .inside)
 
 number-number-requires :
     (t : ℕ) →
     number-lts.Need-number-requires (number-below t, number.Post) (number-at t) number.Post
-number-number-requires t c κs = let s = splits (c .before .before .before .before .before .pre .1) (c .before .before .before .if1 .left) (c .before .before .if2 .taken) in (omega (arith, s .above, c .before .before .before .before .before .pre .0), s .left)
+number-number-requires t c κs = let test = c .before .before in let entry = test .before .before .before in
+    let s = splits (entry .pre .1) (test .before .if1 .left) (test .if2 .taken) in
+    (omega (arith, s .above, entry .pre .0), s .left)
 
 number-sub-number :
     (t : ℕ) → number-lts.Need-sub-number (number-below t, number.Post) (number-at t) number.Post
-number-sub-number t c = let s = splits (c .before .before .before .before .before .before .before .pre .1) (c .before .before .before .before .before .if1 .left) (c .before .before .before .before .if2 .taken) in omega (arith, s .above)
+number-sub-number t c = let test = c .before .before .before .before in
+    let s = splits (test .before .before .before .pre .1) (test .before .if1 .left) (test .if2 .taken) in
+    omega (arith, s .above)
 
 number-number-requires-2 : (t : ℕ) → number-lts.Need-number-requires-2 (
   number-below t,
   number.Post,
 ) (number-at t) number.Post
-number-number-requires-2 t c κs = let s = splits (c .before .before .before .before .before .before .before .pre .1) (c .before .before .before .before .before .if1 .left) (c .before .before .before .before .if2 .taken) in (omega (arith, s .above, c .before .before .before .before .before .before .before .pre .0), s .right _ _ (c .before .number .ensures))
+number-number-requires-2 t c κs = let test = c .before .before .before .before in let entry = test .before .before .before in
+    let s = splits (entry .pre .1) (test .before .if1 .left) (test .if2 .taken) in
+    (omega (arith, s .above, entry .pre .0), s .right _ _ (c .before .number .ensures))
 
 number-returns-2 :
     (t : ℕ) → number-lts.Need-returns-2 (number-below t, number.Post) (number-at t) number.Post
-number-returns-2 t c = pair-numbers (c .before .before .before .before .before .before .if1 .left) (c .before .before .before .before .before .if2 .taken) (c .before .before .number .ensures) (c .number2 .ensures)
+number-returns-2 t c = let test = c .before .before .before .before .before in
+    pair-numbers (test .before .if1 .left) (test .if2 .taken) (c .before .before .number .ensures) (c .number2 .ensures)
 
 number-add-mark :
     (t : ℕ) → number-lts.Need-add-mark (number-below t, number.Post) (number-at t) number.Post
@@ -78,13 +87,16 @@ number-element-write-arg t c = omega (arith, c .before .before .before .pre .1 .
 
 number-sub-number-2 :
     (t : ℕ) → number-lts.Need-sub-number-2 (number-below t, number.Post) (number-at t) number.Post
-number-sub-number-2 t c = let s = carries (c .before .before .before .before .pre .1) (c .before .if2 .left) in omega (arith, s .above)
+number-sub-number-2 t c = let s = carries (c .before .before .before .before .pre .1) (c .before .if2 .left) in
+    omega (arith, s .above)
 
 number-number-requires-3 : (t : ℕ) → number-lts.Need-number-requires-3 (
   number-below t,
   number.Post,
 ) (number-at t) number.Post
-number-number-requires-3 t c κs = let s = carries (c .before .before .before .before .pre .1) (c .before .if2 .left) in (omega (arith, s .above, c .before .before .before .before .pre .0), s .inner)
+number-number-requires-3 t c κs = let entry = c .before .before .before .before in
+    let s = carries (entry .pre .1) (c .before .if2 .left) in
+    (omega (arith, s .above, entry .pre .0), s .inner)
 
 number-returns-3 :
     (t : ℕ) → number-lts.Need-returns-3 (number-below t, number.Post) (number-at t) number.Post
