@@ -57,9 +57,9 @@ refused-requires-2 : tie.Need-refused-requires-2 Inv-loop μ-loop
 refused-requires-2 c κs = search needs
 
 returns-2 : tie.Need-returns-2 Inv-loop μ-loop
-returns-2 c = let head = c .before .before .before .before .before .before .before .before in
+returns-2 c = let test = c .before .before .before .before .before in let inside = test .before .before in let head = inside .before in
     let bad = rw (c .before .before .k2 .given .1) at (c .before .before .before .before .class-item2 .ensures) in
-    no-class _ (c .refused2 .ensures) (class-more-bad (head .loop .inv .done) (c .before .before .before .before .before .before .before .loop-test .taken) (c .before .before .before .before .before .if1 .left) bad)
+    no-class _ (c .refused2 .ensures) (class-more-bad (head .loop .inv .done) (inside .loop-test .taken) (test .if1 .left) bad)
 
 enum-known-c-2 : tie.Need-enum-known-c-2 Inv-loop μ-loop
 enum-known-c-2 c = search needs
@@ -83,7 +83,8 @@ returns-3 c = let bad = rw (c .before .before .k .given .1) at (c .before .befor
     no-class _ (c .refused .ensures) (class-first-bad (c .before .before .before .before .before .before .pre) bad)
 
 returns-4 : tie.Need-returns-4 Inv-loop μ-loop
-returns-4 c = no-class _ (c .refused3 .ensures) (class-open (c .before .before .loop .inv .done) (omega (arith, c .before .before .loop .inv .on, c .before .loop-test .left)))
+returns-4 c = let inv = c .before .before .loop .inv in
+    no-class _ (c .refused3 .ensures) (class-open (inv .done) (omega (arith, inv .on, c .before .loop-test .left)))
 
 pub class-spec : {M : Type 1} → statement M
 class-spec =

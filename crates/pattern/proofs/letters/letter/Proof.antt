@@ -67,10 +67,10 @@ ranged-requires-2 : tie.Need-ranged-requires-2
 ranged-requires-2 c κs = search needs
 
 returns-7 : tie.Need-returns-7
-returns-7 c = let inside = c .before .before .before .before .before .before .before .if1 .left in let no-group = c .before .before .before .before .before .before .before .before .before .pre .1 in
-    let no-class = c .before .before .before .before .before .if2 .left in let no-escape = c .before .before .before .before .if3 .left in let no-dot = c .before .before .before .if5 .left in
+returns-7 c = let no-dot = c .before .before .before in let no-escape = no-dot .before in let no-class = no-escape .before in
+    let inside = no-class .before .before .if1 .left in let no-group = no-class .before .before .before .before .pre .1 in
     let plain = rw (c .before .if6 .left) at (c .before .before .stray .ensures) in
-    let starts = plain (λ e. no-group (record { inside = inside; is = e })) no-class no-escape no-dot in
+    let starts = plain (λ e. no-group (record { inside = inside; is = e })) (no-class .if2 .left) (no-escape .if3 .left) (no-dot .if5 .left) in
     test-letter (c .ranged2 .ensures) (atom-plain _ _ inside starts) (omega (arith, inside))
 
 pub letter-spec : {M : Type 1} → statement M

@@ -232,7 +232,9 @@ module _ (t : ℕ) where
       )
 
   pub returns-3 : lts.Need-returns-3 calls (list-at t) list.Post Inv-loop μ-loop
-  returns-3 c = list-first-bad (c .before .before .before .before .before .before .before .before .pre .1 .1 .inside) (rw (c .before .k .given .1) at (c .before .before .before .branch .ensures))
+  returns-3 c = let called = c .before .before .before in
+      let bad = rw (c .before .k .given .1) at (called .branch .ensures) in
+      list-first-bad (called .before .before .before .before .before .pre .1 .1 .inside) bad
 
   pub returns-4 : lts.Need-returns-4 calls (list-at t) list.Post Inv-loop μ-loop
   returns-4 c = let h = lone-read (c .before .before) in
