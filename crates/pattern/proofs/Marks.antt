@@ -93,7 +93,8 @@ module _ {ks gs : List ℕ} {u p i : ℕ} {e : Re} (h : Lies ks gs u p i e) wher
   }
 
 -- the right part, once the left part is numbered
-lies-after : {ks gs gs′ : List ℕ} {u p i k : ℕ} {x y e : Re} (m : ℕ) → Lies ks gs u p i e → Both k x y e → gs′ ≡ sets gs u (args u m p x) → Lies ks gs′ (u + nodes x) (p + size x) (i - 1) y
+lies-after : {ks gs gs′ : List ℕ} {u p i k : ℕ} {x y e : Re} (m : ℕ) → Lies ks gs u p i e → Both k x y e → gs′ ≡ sets gs u (args u m p x)
+    → Lies ks gs′ (u + nodes x) (p + size x) (i - 1) y
 lies-after {gs = gs} {gs′} {u} {p} {x = x} m h b q =
     lies-frame (lies-right h b) gs′ (ap length q ∙ simp length-sets)
     (λ j g l. ap (λ (r : List ℕ). getD r j 0) q ∙ sets-behind gs u (args u m p x) j (omega (arith, args-length u m p x)))
@@ -153,7 +154,8 @@ leaf-numbers {ks} {gs} {i} {m} l e u p h = go (shape e .shape)
     go (pair a c b) = absurd (omega (arith, l, a, lies-kind h (pair a c b)))
     go (over a o) = absurd (omega (arith, l, a, lies-kind h (over a o)))
 
-pub pair-numbers : {ks gs gs₁ gs₂ : List ℕ} {i m n r : ℕ} → 2 ≤ getD ks i 0 → getD ks i 0 < 4 → Numbers ks gs gs₁ (getD gs i 0) m n → Numbers ks gs₁ gs₂ (i - 1) n r → Numbers ks gs gs₂ i m r
+pub pair-numbers : {ks gs gs₁ gs₂ : List ℕ} {i m n r : ℕ} → 2 ≤ getD ks i 0 → getD ks i 0 < 4 → Numbers ks gs gs₁ (getD gs i 0) m n
+    → Numbers ks gs₁ gs₂ (i - 1) n r → Numbers ks gs gs₂ i m r
 pair-numbers {ks} {gs} {gs₁} {gs₂} {i} {m} {n} {r} l g f f′ e u p h = go (shape e .shape)
   where
     go : {k : ℕ} → Shape k e → Numbered u p m e gs gs₂ r
@@ -188,10 +190,9 @@ over-numbers {ks} {gs} {gs₁} {i} {m} {r} g f e u p h = go (shape e .shape)
     go (pair a c b) = absurd (omega (arith, g, c, lies-kind h (pair a c b)))
     go (over {x = x} a o) =
         let q = rw (add-one m) at (f x u p (lies-below (m + 1) h o)) in
-        let n = args-length u (suc m) p x in
+        let row = args u (suc m) p x in
+        let behind : i ≡ u + length row = omega (arith, args-length u (suc m) p x, h .last, o .node) in
         record {
-          arg =
-              rw (o .arg u m p)
-              (writes gs u (args u (suc m) p x) (suc m ∷ []) refl (q .arg ∙ sets-comm gs u (args u (suc m) p x) i (suc m) (omega (arith, n, h .last, o .node))) (omega (arith, n, h .last, o .node)));
+          arg = rw (o .arg u m p) (writes gs u row (suc m ∷ []) refl (q .arg ∙ sets-comm gs u row i (suc m) (omega arith)) behind);
           marks = omega (arith, q .marks, o .mark);
         }

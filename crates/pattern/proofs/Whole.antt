@@ -85,7 +85,8 @@ whole b h = record {
 
 -- ---- refusals
 
-pub refusal : {s : List ℕ} {r : Reading} {a : Answer} → Refusal r a → Read s (number-of r) (value-of r) no-parts → Read s (number-of (a .reading)) (value-of (a .reading)) (parts-of (a .pattern))
+pub refusal : {s : List ℕ} {r : Reading} {a : Answer} → Refusal r a → Read s (number-of r) (value-of r) no-parts
+    → Read s (number-of (a .reading)) (value-of (a .reading)) (parts-of (a .pattern))
 refusal h q = rw (h .reading, h .no-parts) q
 
 module _ {s : List ℕ} (short : length s ≤ 512) where

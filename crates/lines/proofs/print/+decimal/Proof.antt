@@ -39,7 +39,8 @@ module _ (t : ℕ) where
   decimal-requires c κs = omega arith
 
   put-requires-2 : lts.Need-put-requires-2 (claims t) (at t) own.Post
-  put-requires-2 c κs = let front = c .before .before .before in omega (arith, digits-tenth (front .before .before .before .before .args .n) (omega arith), front .decimal .ensures .moved)
+  put-requires-2 c κs = let front = c .before .before .before in
+      omega (arith, digits-tenth (front .before .before .before .before .args .n) (omega arith), front .decimal .ensures .moved)
 
   same-length : lts.Need-same-length (claims t) (at t) own.Post
   same-length c = wrote-kept (c .before .before .put .ensures)

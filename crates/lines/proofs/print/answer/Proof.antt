@@ -14,7 +14,11 @@ same-length : tie.Need-same-length
 same-length c = search needs
 
 returns : tie.Need-returns
-returns c = let test = c .before .before .before .before in let zero = test .if1 .taken in let line = test .before .before .before in let entry = line .before .before .before .before in
+returns c =
+    let test = c .before .before .before .before in
+    let line = test .before .before .before in
+    let entry = line .before .before .before .before in
+    let zero = test .if1 .taken in
     let h = entry .pre .1 zero in
     (wrote-tree (entry .args .n) (entry .args .v) (entry .args .f) _ zero (line .answer-line .ensures .0) (c .before .before .tree-line .ensures .0), search needs)
 
