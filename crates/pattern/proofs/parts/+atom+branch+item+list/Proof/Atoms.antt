@@ -2,8 +2,9 @@
 use borrow.Author.Needs.{needs}
 use Prim.Native.Nat.{ℕ}
 use native.Mathlib.Omega.{arith}
+use lib.ListN.{length}
 use Rattle.pattern.specs.declared.parts.Got.the-variants.{Done}
-use Rattle.pattern.specs.Stores.{Stores, stores}
+use Rattle.pattern.specs.Stores.{Stores, stores, Room, Within}
 use Rattle.pattern.specs.Parts.{Byte-at, Listed}
 use Rattle.pattern.proofs.Steps.{unit-read, group-read, no-group, open-group}
 use Rattle.pattern.proofs.parts.+atom+branch+item+list.Proof.Ranks.{atom-at, list-below}
@@ -63,6 +64,13 @@ module _ (t : ℕ) where
   abbrev inner-left : Inner → Stores
   inner-left c = let left = c .before .before .before .list .last in stores (left .1 .0) (left .1 .1 .0) (left .1 .1 .1 .0)
 
+  -- there is room in the stores, and the cursor stands within the pattern
+  entry-room : (c : Entry) → Room (given c)
+  entry-room c = c .pre .1 .0
+
+  entry-within : (c : Entry) → Within (length (c .args .p .now)) (c .args .c)
+  entry-within c = c .pre .1 .1
+
   opens : (c : Opened) → Byte-at (entry-of c .args .p .now) (entry-of c .args .c .at) 40
   opens c = rw (c .if1 .taken) at (c .before .stands .ensures)
 
@@ -74,13 +82,13 @@ module _ (t : ℕ) where
   stands-requires c κs = search needs
 
   pub add-stands : lts.Need-add-stands calls (atom-at t) atom.Post
-  add-stands c = let o = opens c in omega (arith, o, entry-of c .pre .1 .1)
+  add-stands c = let o = opens c in omega (arith, o, entry-within (entry-of c))
 
   pub stands-requires-2 : lts.Need-stands-requires-2 calls (atom-at t) atom.Post
   stands-requires-2 c κs = search needs
 
   pub empty-requires : lts.Need-empty-requires calls (atom-at t) atom.Post
-  empty-requires c κs = let opened = c .before .before .before .before in let o = opens opened in omega (arith, o, entry-of opened .pre .1)
+  empty-requires c κs = let opened = c .before .before .before .before in let o = opens opened in omega (arith, o, entry-room (entry-of opened), entry-within (entry-of opened))
 
   pub returns : lts.Need-returns calls (atom-at t) atom.Post
   returns c = let test = c .before .before .before in
@@ -88,11 +96,11 @@ module _ (t : ℕ) where
       unit-read (opens (test .before .before)) shuts (c .empty .ensures .0) (c .empty .ensures .1)
 
   pub past-requires : lts.Need-past-requires calls (atom-at t) atom.Post
-  past-requires c κs = omega (arith, entry-of (c .before .before .before .before .before) .pre .1 .1)
+  past-requires c κs = omega (arith, entry-within (entry-of (c .before .before .before .before .before)))
 
   pub list-requires : lts.Need-list-requires calls (atom-at t) atom.Post
   list-requires c κs = let o = opens (opened-of c) in let entry = entry-of (opened-of c) in
-      (omega (arith, c .past .ensures, o, entry .pre .0), (entry .pre .1 .0, omega (arith, c .past .ensures, entry .pre .1 .1, o)))
+      (omega (arith, c .past .ensures, o, entry .pre .0), (entry-room entry, omega (arith, c .past .ensures, entry-within entry, o)))
 
   pub enum-known-k : lts.Need-enum-known-k calls (atom-at t) atom.Post
   enum-known-k c = search needs
@@ -108,7 +116,7 @@ module _ (t : ℕ) where
 
   pub shut-requires : lts.Need-shut-requires calls (atom-at t) atom.Post
   shut-requires c κs = let h = inner-read (c .before) in let entry = entry-of (opened-of (begun-of (c .before))) in
-      omega (arith, h .0 .moved, entry .pre .1 .1)
+      omega (arith, h .0 .moved, entry-within entry)
 
   pub returns-3 : lts.Need-returns-3 calls (atom-at t) atom.Post
   returns-3 c = let h = inner-read (c .before .before) in let begun = begun-of (c .before .before) in
@@ -123,7 +131,7 @@ module _ (t : ℕ) where
 
   pub single-requires : lts.Need-single-requires calls (atom-at t) atom.Post
   single-requires c κs = let test = c .before .before .before in let entry = test .before .before .before in
-      (entry .pre .1 .0, entry .pre .1 .1, rw (test .if1 .left) at (test .before .stands .ensures))
+      (entry-room entry, entry-within entry, rw (test .if1 .left) at (test .before .stands .ensures))
 
   pub returns-5 : lts.Need-returns-5 calls (atom-at t) atom.Post
   returns-5 c = c .single .ensures

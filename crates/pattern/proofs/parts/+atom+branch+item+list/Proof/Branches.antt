@@ -1,5 +1,6 @@
 -- What `branch` needs for its contract, in the cycle of calls {atom, branch, item, list}. Assumes nothing.
 use borrow.Author.Needs.{needs}
+use mathlib.Core.List.{List}
 use Prim.Native.Nat.{ℕ, _-_, _<_}
 use native.Mathlib.Omega.{arith}
 use lib.ListN.{length}
@@ -17,11 +18,15 @@ use Rattle.pattern.proofs.nodes.joined.Reads as joined-reads
 use Rattle.pattern.proofs.parts.goes_on.Reads as goes-on-reads
 use Rattle.pattern.proofs.parts.+atom+branch+item+list.Lts-branch as lts
 
--- The entry is not among a loop's locals: what is read so far is said of every start.
+-- What holds at the loop's head, where d stands. The entry is not among a loop's locals: what is read so far is said of every start.
+pub record Going-on (p : List ℕ) (d₀ : Cursor) (S₀ : Stores) (d : Cursor) (S : Stores) : Type 0 where
+  pub inside : Within (length p) d
+  pub some : 0 < d .used
+  pub room : Room S
+  pub reads : (c : Cursor) (S′ : Stores) → Read-to 1 Branch-done p c d₀ S′ S₀ → Read-to 1 Branch-done p c d S′ S
+
 abbrev pub Inv-loop : lts.InvT-loop
-Inv-loop p kind₀ arg₀ class₀ d₀ kind arg class d =
-    Within (length p) d × (0 < d .used) × Room (stores kind arg class)
-    × ((c : Cursor) (S : Stores) → Read-to 1 Branch-done p c d₀ S (stores kind₀ arg₀ class₀) → Read-to 1 Branch-done p c d S (stores kind arg class))
+Inv-loop p kind₀ arg₀ class₀ d₀ kind arg class d = Going-on p d₀ (stores kind₀ arg₀ class₀) d (stores kind arg class)
 
 abbrev pub μ-loop : lts.MeasureT-loop
 μ-loop p kind₀ arg₀ class₀ d₀ kind arg class d = length p - d .at
@@ -59,7 +64,10 @@ module _ (t : ℕ) where
   abbrev more-of : Joined → More
   more-of c = c .before .before .before
 
-  -- the stores behind the first item, at the loop's head, behind one more item, and behind its joint
+  -- the stores at the entry, behind the first item, at the loop's head, behind one more item, and behind its joint
+  abbrev given : Entry → Stores
+  given c = stores (c .args .kind .now) (c .args .arg .now) (c .args .class .now)
+
   abbrev first-left : First → Stores
   first-left c = let left = c .before .before .before .item .last in stores (left .1 .0) (left .1 .1 .0) (left .1 .1 .1 .0)
 
@@ -72,25 +80,32 @@ module _ (t : ℕ) where
   abbrev joined-left : Joined → Stores
   joined-left c = stores (c .joined .last .0) (c .joined .last .1 .0) (more-left (more-of c) .word)
 
+  -- there is room in the stores, and the cursor stands within the pattern
+  entry-room : (c : Entry) → Room (given c)
+  entry-room c = c .pre .1 .0
+
+  entry-within : (c : Entry) → Within (length (c .args .p .now)) (c .args .c)
+  entry-within c = c .pre .1 .1
+
   -- a branch is read from the entry to d
   abbrev Branch-to : Entry → Cursor → Stores → Type 0
-  Branch-to b d S = Read-to 1 Branch-done (b .args .p .now) (b .args .c) d (stores (b .args .kind .now) (b .args .arg .now) (b .args .class .now)) S
+  Branch-to b d S = Read-to 1 Branch-done (b .args .p .now) (b .args .c) d (given b) S
 
   first-read : (c : First) → Branch-to (entry-of c) (c .before .first .given .0 .0) (first-left c)
   first-read c = first-item (rw (c .before .first .given .1) at (c .before .before .before .item .ensures))
 
   first-room : (c : First) → Room (first-left c)
-  first-room c = room-wrote (first-read c .wrote) (entry-of c .pre .1 .0)
+  first-room c = room-wrote (first-read c .wrote) (entry-room (entry-of c))
 
   so-far : (c : Head) → Branch-to (start-of c) (c .loop .d) (held c)
-  so-far c = c .loop .inv .3 _ _ (first-read (c .before))
+  so-far c = c .loop .inv .reads _ _ (first-read (c .before))
 
   more-read : (c : More) → let head = head-of c in
       Itemed (start-of head .args .p .now) (head .loop .d) (held head) (more-left c) (Done (c .before .e .given .0 .0))
   more-read c = rw (c .before .e .given .1) at (c .before .before .before .item2 .ensures)
 
   more-room : (c : More) → Room (more-left c)
-  more-room c = room-wrote (more-read c .wrote) (head-of c .loop .inv .2)
+  more-room c = room-wrote (more-read c .wrote) (head-of c .loop .inv .room)
 
   -- a turn goes on with what any start has read
   next : (c : Joined) (c′ : Cursor) (S : Stores) → let head = head-of (more-of c) in let p = start-of head .args .p .now in
@@ -101,7 +116,7 @@ module _ (t : ℕ) where
   turned c = next c _ _ (so-far (head-of (more-of c)))
 
   turned-room : (c : Joined) → Room (joined-left c)
-  turned-room c = room-wrote (turned c .wrote) (start-of (head-of (more-of c)) .pre .1 .0)
+  turned-room c = room-wrote (turned c .wrote) (entry-room (start-of (head-of (more-of c))))
 
   pub item-requires : lts.Need-item-requires calls (branch-at t) branch.Post Inv-loop μ-loop
   item-requires c κs = let entry = c .before .before .before .before in (omega (arith, entry .pre .0), entry .pre .1)
@@ -113,14 +128,15 @@ module _ (t : ℕ) where
   enum-known-first c = search needs
 
   pub loop-holds : lts.Need-loop-holds calls (branch-at t) branch.Post Inv-loop μ-loop
-  loop-holds c = let h = first-read c in (within (entry-of c .pre .1 .1) (h .moved), omega (arith, h .moved), first-room c, λ c′ S x. x)
+  loop-holds c = let h = first-read c in
+      record { inside = within (entry-within (entry-of c)) (h .moved); some = omega (arith, h .moved); room = first-room c; reads = λ c′ S x. x }
 
   pub goes-on-requires : lts.Need-goes-on-requires calls (branch-at t) branch.Post Inv-loop μ-loop
   goes-on-requires c κs = search needs
 
   pub item-requires-2 : lts.Need-item-requires-2 calls (branch-at t) branch.Post Inv-loop μ-loop
   item-requires-2 c κs = let head = c .before .before .before .before .before in let h = so-far head in
-      (omega (arith, h .moved, start-of head .pre .0), (head .loop .inv .2, head .loop .inv .0))
+      (omega (arith, h .moved, start-of head .pre .0), (head .loop .inv .room, head .loop .inv .inside))
 
   pub enum-known-k-2 : lts.Need-enum-known-k-2 calls (branch-at t) branch.Post Inv-loop μ-loop
   enum-known-k-2 c = search needs
@@ -136,14 +152,19 @@ module _ (t : ℕ) where
 
   pub joined-requires : lts.Need-joined-requires calls (branch-at t) branch.Post Inv-loop μ-loop
   joined-requires c κs = let more = c .before .before in let head = head-of more in let x = more-read more in let r = more-room more in
-      omega (arith, r, x .moved, head .loop .inv .0, head .loop .inv .1)
+      omega (arith, r, x .moved, head .loop .inv .inside, head .loop .inv .some)
 
   pub loop-less : lts.Need-loop-less calls (branch-at t) branch.Post Inv-loop μ-loop
   loop-less c = let x = more-read (more-of c) in omega (arith, x .moved, c .joined .ensures .0)
 
   pub loop-again : lts.Need-loop-again calls (branch-at t) branch.Post Inv-loop μ-loop
   loop-again c = let n = turned c in let head = head-of (more-of c) in
-      (within (start-of head .pre .1 .1) (n .moved), omega (arith, n .moved), turned-room c, λ c′ S y. next c c′ S (head .loop .inv .3 c′ S y))
+      record {
+        inside = within (entry-within (start-of head)) (n .moved);
+        some = omega (arith, n .moved);
+        room = turned-room c;
+        reads = λ c′ S y. next c c′ S (head .loop .inv .reads c′ S y);
+      }
 
   pub returns-2 : lts.Need-returns-2 calls (branch-at t) branch.Post Inv-loop μ-loop
   returns-2 c = branch-first-bad (rw (c .before .k .given .1) at (c .before .before .before .item .ensures))

@@ -2,8 +2,9 @@
 use borrow.Author.Needs.{needs}
 use Prim.Native.Nat.{ℕ}
 use native.Mathlib.Omega.{arith}
+use lib.ListN.{length}
 use Rattle.pattern.specs.declared.parts.Got.the-variants.{Done}
-use Rattle.pattern.specs.Stores.{Stores, stores, Room}
+use Rattle.pattern.specs.Stores.{Stores, stores, Room, Within}
 use Rattle.pattern.specs.Parts.{Atomed}
 use Rattle.pattern.proofs.Written.{room-wrote}
 use Rattle.pattern.proofs.Steps.{bare-read, signed-read}
@@ -36,12 +37,19 @@ module _ (t : ℕ) where
   abbrev atom-left : Atom → Stores
   atom-left c = let left = c .before .before .before .atom .last in stores (left .1 .0) (left .1 .1 .0) (left .1 .1 .1 .0)
 
+  -- there is room in the stores, and the cursor stands within the pattern
+  entry-room : (c : Entry) → Room (given c)
+  entry-room c = c .pre .1 .0
+
+  entry-within : (c : Entry) → Within (length (c .args .p .now)) (c .args .c)
+  entry-within c = c .pre .1 .1
+
   atom-read : (c : Atom) → let entry = entry-of c in
       Atomed (entry .args .p .now) (entry .args .c) (given entry) (atom-left c) (Done (c .before .d .given .0 .0))
   atom-read c = rw (c .before .d .given .1) at (c .before .before .before .atom .ensures)
 
   atom-room : (c : Atom) → Room (atom-left c)
-  atom-room c = room-wrote (atom-read c .wrote) (entry-of c .pre .1 .0)
+  atom-room c = room-wrote (atom-read c .wrote) (entry-room (entry-of c))
 
   pub atom-requires : lts.Need-atom-requires calls (item-at t) item.Post
   atom-requires c κs = let entry = c .before .before .before .before in (omega (arith, entry .pre .0), entry .pre .1)
@@ -59,11 +67,11 @@ module _ (t : ℕ) where
   returns c = bare-read (atom-read (c .before .before)) (c .before .sign .ensures) (c .if1 .taken)
 
   pub add-marked : lts.Need-add-marked calls (item-at t) item.Post
-  add-marked c = let read = c .before .before .before .before in let h = atom-read read in omega (arith, h .moved, entry-of read .pre .1 .1)
+  add-marked c = let read = c .before .before .before .before in let h = atom-read read in omega (arith, h .moved, entry-within (entry-of read))
 
   pub marked-requires : lts.Need-marked-requires calls (item-at t) item.Post
   marked-requires c κs = let read = c .before .before .before .before in let h = atom-read read in let r = atom-room read in
-      omega (arith, r, h .moved, entry-of read .pre .1 .1)
+      omega (arith, r, h .moved, entry-within (entry-of read))
 
   pub returns-2 : lts.Need-returns-2 calls (item-at t) item.Post
   returns-2 c = rw (c .before .k .given .1) at (c .before .before .before .atom .ensures)

@@ -2,6 +2,7 @@
 use borrow.Author.Needs.{needs}
 use borrow.Author.Tests.{not-false, not-true}
 use mathlib.Core.Path.{refl, _∙_}
+use mathlib.Core.List.{List}
 use Prim.Native.Nat.{ℕ, _-_, _<_}
 use native.Mathlib.Omega.{arith}
 use lib.ListN.{length}
@@ -21,11 +22,16 @@ use Rattle.pattern.proofs.nodes.past.Reads as past-reads
 use Rattle.pattern.proofs.parts.stands.Reads as stands-reads
 use Rattle.pattern.proofs.parts.+atom+branch+item+list.Lts-list as lts
 
--- What is read so far is said of every start, as in a branch.
+-- What holds at the loop's head, where d stands at a bar. What is read so far is said of every start, as in a branch.
+pub record At-bar (p : List ℕ) (d₀ : Cursor) (S₀ : Stores) (d : Cursor) (S : Stores) : Type 0 where
+  pub inside : Within (length p) d
+  pub some : 0 < d .used
+  pub room : Room S
+  pub bar : Byte-at p (d .at) 124
+  pub reads : (c : Cursor) (S′ : Stores) → Read-to 0 Fronts-at p c d₀ S′ S₀ → Read-to 0 Fronts-at p c d S′ S
+
 abbrev pub Inv-loop : lts.InvT-loop
-Inv-loop p kind₀ arg₀ class₀ d₀ kind arg class d =
-    Within (length p) d × (0 < d .used) × Room (stores kind arg class) × Byte-at p (d .at) 124
-    × ((c : Cursor) (S : Stores) → Read-to 0 Fronts-at p c d₀ S (stores kind₀ arg₀ class₀) → Read-to 0 Fronts-at p c d S (stores kind arg class))
+Inv-loop p kind₀ arg₀ class₀ d₀ kind arg class d = At-bar p d₀ (stores kind₀ arg₀ class₀) d (stores kind arg class)
 
 abbrev pub μ-loop : lts.MeasureT-loop
 μ-loop p kind₀ arg₀ class₀ d₀ kind arg class d = length p - d .at
@@ -46,7 +52,7 @@ module _ (t : ℕ) where
     joined-reads.Learnt,
   )
 
-  -- Places, and the ways back: the entry; the first branch was read; it has its mark; the loop's head;
+  -- Places, and the ways back: the entry; the first branch was read; it has its mark; the loop's head; past the bar;
   -- one more branch was read; it has its mark; it is joined to those before.
   abbrev Entry : Type 0
   Entry = lts.Start calls (list-at t) list.Post Inv-loop μ-loop
@@ -59,6 +65,9 @@ module _ (t : ℕ) where
 
   abbrev Head : Type 0
   Head = lts.At-loop calls (list-at t) list.Post Inv-loop μ-loop
+
+  abbrev Past : Type 0
+  Past = lts.After-past calls (list-at t) list.Post Inv-loop μ-loop
 
   abbrev More : Type 0
   More = lts.After-known-told4 calls (list-at t) list.Post Inv-loop μ-loop
@@ -78,8 +87,11 @@ module _ (t : ℕ) where
   abbrev start-of : Head → Entry
   start-of c = entry-of (lone-of (c .before))
 
-  abbrev head-of : More → Head
-  head-of c = c .before .before .before .before .before .before .before .before
+  abbrev head-of : Past → Head
+  head-of c = c .before .before .before .before
+
+  abbrev past-of : More → Past
+  past-of c = c .before .before .before .before
 
   abbrev more-of : Marked → More
   more-of c = c .before .before .before
@@ -88,7 +100,7 @@ module _ (t : ℕ) where
   marked-of c = c .before .before .before
 
   abbrev turn-of : Joined → Head
-  turn-of c = head-of (more-of (marked-of c))
+  turn-of c = head-of (past-of (more-of (marked-of c)))
 
   -- the stores at the entry, behind the first branch and its mark, at the loop's head, behind one more branch, its mark and its joint
   abbrev given : Entry → Stores
@@ -112,12 +124,19 @@ module _ (t : ℕ) where
   abbrev joined-left : Joined → Stores
   joined-left c = stores (c .joined .last .0) (c .joined .last .1 .0) (more-left (more-of (marked-of c)) .word)
 
+  -- there is room in the stores, and the cursor stands within the pattern
+  entry-room : (c : Entry) → Room (given c)
+  entry-room c = c .pre .1 .0
+
+  entry-within : (c : Entry) → Within (length (c .args .p .now)) (c .args .c)
+  entry-within c = c .pre .1 .1
+
   lone-read : (c : Lone) → let entry = entry-of c in
       Branched (entry .args .p .now) (entry .args .c) (given entry) (lone-left c) (Done (c .before .first .given .0 .0))
   lone-read c = rw (c .before .first .given .1) at (c .before .before .before .branch .ensures)
 
   lone-room : (c : Lone) → Room (lone-left c)
-  lone-room c = room-wrote (lone-read c .0 .wrote) (entry-of c .pre .1 .0)
+  lone-room c = room-wrote (lone-read c .0 .wrote) (entry-room (entry-of c))
 
   -- a bar stands behind the first branch
   first-bar : (c : First) → Byte-at (entry-of (lone-of c) .args .p .now) (lone-of c .before .first .given .0 .0 .at) 124
@@ -131,17 +150,17 @@ module _ (t : ℕ) where
   first-read c = first-front (lone-read (lone-of c) .0) (first-bar c) (c .marked .ensures .0) (c .marked .ensures .1)
 
   first-room : (c : First) → Room (first-left c)
-  first-room c = room-wrote (first-read c .wrote) (entry-of (lone-of c) .pre .1 .0)
+  first-room c = room-wrote (first-read c .wrote) (entry-room (entry-of (lone-of c)))
 
   so-far : (c : Head) → Fronts-to (start-of c) (c .loop .d) (held c)
-  so-far c = c .loop .inv .4 _ _ (first-read (c .before))
+  so-far c = c .loop .inv .reads _ _ (first-read (c .before))
 
-  more-read : (c : More) → let head = head-of c in
-      Branched (start-of head .args .p .now) (c .before .before .before .before .past .result) (held head) (more-left c) (Done (c .before .e .given .0 .0))
+  more-read : (c : More) → let past = past-of c in let head = head-of past in
+      Branched (start-of head .args .p .now) (past .past .result) (held head) (more-left c) (Done (c .before .e .given .0 .0))
   more-read c = rw (c .before .e .given .1) at (c .before .before .before .branch2 .ensures)
 
   more-room : (c : More) → Room (more-left c)
-  more-room c = room-wrote (more-read c .0 .wrote) (head-of c .loop .inv .2)
+  more-room c = room-wrote (more-read c .0 .wrote) (head-of (past-of c) .loop .inv .room)
 
   marked-room : (c : Marked) → Room (marked-left c)
   marked-room c = room-put (c .marked2 .ensures .1) (more-room (more-of c))
@@ -151,14 +170,14 @@ module _ (t : ℕ) where
       Read-to 0 Fronts-at p c′ (head .loop .d) S (held head) → Turned p c′ (c .joined .result) S (joined-left c)
   next c c′ S h = let marked = marked-of c in let more = more-of marked in
       let mark = marked .marked2 .ensures in let joint = c .joined .ensures in
-      turned h (more .before .before .before .before .past .ensures) (more-read more .0) (mark .0) (mark .1) (joint .0) (joint .1)
+      turned h (past-of more .past .ensures) (more-read more .0) (mark .0) (mark .1) (joint .0) (joint .1)
 
   all-turned : (c : Joined) → let entry = start-of (turn-of c) in
       Turned (entry .args .p .now) (entry .args .c) (c .joined .result) (given entry) (joined-left c)
   all-turned c = next c _ _ (so-far (turn-of c))
 
   turned-room : (c : Joined) → Room (joined-left c)
-  turned-room c = room-wrote (all-turned c .wrote) (start-of (turn-of c) .pre .1 .0)
+  turned-room c = room-wrote (all-turned c .wrote) (entry-room (start-of (turn-of c)))
 
   pub branch-requires : lts.Need-branch-requires calls (list-at t) list.Post Inv-loop μ-loop
   branch-requires c κs = let entry = c .before .before .before .before in (omega (arith, entry .pre .0), entry .pre .1)
@@ -174,38 +193,44 @@ module _ (t : ℕ) where
 
   pub marked-requires : lts.Need-marked-requires calls (list-at t) list.Post Inv-loop μ-loop
   marked-requires c κs = let lone = c .before .before .before .before in let h = lone-read lone in let r = lone-room lone in
-      omega (arith, r, h .0 .moved, entry-of lone .pre .1 .1)
+      omega (arith, r, h .0 .moved, entry-within (entry-of lone))
 
   pub loop-holds : lts.Need-loop-holds calls (list-at t) list.Post Inv-loop μ-loop
   loop-holds c = let n = first-read c in let bar = byte-there (c .marked .ensures .0 .at) (first-bar c) in
-      (within (entry-of (lone-of c) .pre .1 .1) (n .moved), omega (arith, n .moved), first-room c, bar, λ c′ S x. x)
+      record {
+        inside = within (entry-within (entry-of (lone-of c))) (n .moved);
+        some = omega (arith, n .moved);
+        room = first-room c;
+        bar = bar;
+        reads = λ c′ S x. x;
+      }
 
   pub past-requires : lts.Need-past-requires calls (list-at t) list.Post Inv-loop μ-loop
-  past-requires c κs = omega (arith, c .before .before .before .loop .inv .0)
+  past-requires c κs = omega (arith, c .before .before .before .loop .inv .inside)
 
   pub branch-requires-2 : lts.Need-branch-requires-2 calls (list-at t) list.Post Inv-loop μ-loop
-  branch-requires-2 c κs = let head = c .before .before .before .before in let h = so-far head in let bar = head .loop .inv .3 in
-      (omega (arith, c .past .ensures, h .moved, start-of head .pre .0, bar), (head .loop .inv .2, omega (arith, c .past .ensures, head .loop .inv .0, bar)))
+  branch-requires-2 c κs = let head = head-of c in let inv = head .loop .inv in let h = so-far head in
+      (omega (arith, c .past .ensures, h .moved, start-of head .pre .0, inv .bar), (inv .room, omega (arith, c .past .ensures, inv .inside, inv .bar)))
 
   pub enum-known-k-2 : lts.Need-enum-known-k-2 calls (list-at t) list.Post Inv-loop μ-loop
   enum-known-k-2 c = search needs
 
   pub returns : lts.Need-returns calls (list-at t) list.Post Inv-loop μ-loop
-  returns c = let head = c .before .before .before .before .before .before .before .before in
+  returns c = let past = c .before .before .before .before in let head = head-of past in
       let bad = rw (c .before .k2 .given .1) at (c .before .before .before .branch2 .ensures) in
-      no-next (so-far head) (head .loop .inv .3) (c .before .before .before .before .past .ensures) bad
+      no-next (so-far head) (head .loop .inv .bar) (past .past .ensures) bad
 
   pub enum-known-e : lts.Need-enum-known-e calls (list-at t) list.Post Inv-loop μ-loop
   enum-known-e c = search needs
 
   pub marked-requires-2 : lts.Need-marked-requires-2 calls (list-at t) list.Post Inv-loop μ-loop
   marked-requires-2 c κs = let more = c .before .before in let x = more-read more in let r = more-room more in
-      omega (arith, r, x .0 .moved, more .before .before .before .before .past .ensures, head-of more .loop .inv .0)
+      omega (arith, r, x .0 .moved, past-of more .past .ensures, head-of (past-of more) .loop .inv .inside)
 
   pub joined-requires : lts.Need-joined-requires calls (list-at t) list.Post Inv-loop μ-loop
-  joined-requires c κs = let marked = c .before .before in let more = more-of marked in let inv = head-of more .loop .inv in
+  joined-requires c κs = let marked = c .before .before in let more = more-of marked in let inv = head-of (past-of more) .loop .inv in
       let x = more-read more in let r = marked-room marked in
-      omega (arith, r, x .0 .moved, more .before .before .before .before .past .ensures, marked .marked2 .ensures .0, inv .0, inv .1)
+      omega (arith, r, x .0 .moved, past-of more .past .ensures, marked .marked2 .ensures .0, inv .inside, inv .some)
 
   pub stands-requires-2 : lts.Need-stands-requires-2 calls (list-at t) list.Post Inv-loop μ-loop
   stands-requires-2 c κs = search needs
@@ -219,22 +244,23 @@ module _ (t : ℕ) where
 
   pub loop-less : lts.Need-loop-less calls (list-at t) list.Post Inv-loop μ-loop
   loop-less c = let joined = c .before .before in let marked = marked-of joined in let more = more-of marked in let x = more-read more in
-      omega (arith, x .0 .moved, more .before .before .before .before .past .ensures, marked .marked2 .ensures .0, joined .joined .ensures .0)
+      omega (arith, x .0 .moved, past-of more .past .ensures, marked .marked2 .ensures .0, joined .joined .ensures .0)
 
   pub loop-again : lts.Need-loop-again calls (list-at t) list.Post Inv-loop μ-loop
   loop-again c = let joined = c .before .before in let head = turn-of joined in let n = all-turned joined in
-      let bar = rw (not-false (c .before .stands2 .result) (c .if2 .left)) at (c .before .stands2 .ensures) in (
-        within (start-of head .pre .1 .1) (n .moved),
-        omega (arith, n .moved),
-        turned-room joined,
-        bar,
-        λ c′ S y. turned-front (next joined c′ S (head .loop .inv .4 c′ S y)) bar,
-      )
+      let bar = rw (not-false (c .before .stands2 .result) (c .if2 .left)) at (c .before .stands2 .ensures) in
+      record {
+        inside = within (entry-within (start-of head)) (n .moved);
+        some = omega (arith, n .moved);
+        room = turned-room joined;
+        bar = bar;
+        reads = λ c′ S y. turned-front (next joined c′ S (head .loop .inv .reads c′ S y)) bar;
+      }
 
   pub returns-3 : lts.Need-returns-3 calls (list-at t) list.Post Inv-loop μ-loop
   returns-3 c = let called = c .before .before .before in
       let bad = rw (c .before .k .given .1) at (called .branch .ensures) in
-      list-first-bad (called .before .before .before .before .before .pre .1 .1 .inside) bad
+      list-first-bad (entry-within (called .before .before .before .before .before) .inside) bad
 
   pub returns-4 : lts.Need-returns-4 calls (list-at t) list.Post Inv-loop μ-loop
   returns-4 c = let h = lone-read (c .before .before) in
