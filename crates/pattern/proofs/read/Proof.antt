@@ -2,7 +2,8 @@
 use borrow.Author.Needs.{needs}
 use native.Mathlib.Omega.{arith}
 use mathlib.Core.Path.{_≡_, refl}
-use Prim.Native.Nat.{_≤_, _<_}
+use mathlib.Core.List.{List}
+use Prim.Native.Nat.{ℕ, _≤_, _<_}
 use lib.ListN.{length, getD}
 use Rattle.meaning.specs.Promise.{long-pattern}
 use Rattle.laws.specs.Holds.{nodes-some}
@@ -11,16 +12,16 @@ use Rattle.pattern.proofs.Whole.{Whole, whole, refusal, stopped, cut-sh
 use Rattle.pattern.proofs.read.Statement.{statement}
 use Rattle.pattern.proofs.read.Tie as tie
 
--- where the list was read: the pattern is short
-short : (c : tie.After-known-told2) → length (c .before .before .before .before .before .before .before .before .before .before .args .pattern .now) ≤ 512
+-- where the list was read: the pattern, which is short
+abbrev text : tie.After-known-told2 → List ℕ
+text c = c .before .before .before .before .before .before .before .before .before .before .args .pattern .now
+
+short : (c : tie.After-known-told2) → length (text c) ≤ 512
 short c = c .before .before .before .before .before .before .before .before .if1 .left
 
 -- the list that was read, and the byte that it ends before
-listed : (c : tie.After-known-told2) →
-    let p = c .before .before .before .before .before .before .before .before .before .before .args .pattern .now in
-    let d = c .before .d .given .0 .0 in
-    let left = c .before .before .before .list .last in
-    Whole p d (stores (left .1 .0) (left .1 .1 .0) (left .1 .1 .1 .0)) × (d .at < length p → getD p (d .at) 0 ≡ 41)
+listed : (c : tie.After-known-told2) → let d = c .before .d .given .0 .0 in let left = c .before .before .before .list .last in
+    Whole (text c) d (stores (left .1 .0) (left .1 .1 .0) (left .1 .1 .1 .0)) × (d .at < length (text c) → getD (text c) (d .at) 0 ≡ 41)
 listed c = let h = rw (c .before .d .given .1) at (c .before .before .before .list .ensures) in
     (whole (c .before .before .before .before .start .ensures) (h .0), h .1)
 
@@ -73,11 +74,11 @@ refused-requires-6 c κs = search needs
 
 returns-5 : tie.Need-returns-5
 returns-5 c = let places = c .before .before .before in let depth = places .before .before in let end = depth .before .before in let read = end .before in
-    let many = c .before .if5 .taken in
-    refusal (c .refused6 .ensures) (many-marks (short read) (listed read .0) (end .if2 .left) (depth .if3 .left) (places .if4 .left) many)
+    let whole-list = listed read .0 in
+    refusal (c .refused6 .ensures) (many-marks (short read) whole-list (end .if2 .left) (depth .if3 .left) (places .if4 .left) (c .before .if5 .taken))
 
 sub-number : tie.Need-sub-number
-sub-number c = let h = listed (c .before .before .before .before .before .before .before .before .before) in omega (arith, h .0 .used, nodes-some (h .0 .reading))
+sub-number c = let h = listed (c .before .before .before .before .before .before .before .before .before) .0 in omega (arith, h .used, nodes-some (h .reading))
 
 number-requires : tie.Need-number-requires
 number-requires c κs = let marks = c .before .before in let places = marks .before .before in let depth = places .before .before in
