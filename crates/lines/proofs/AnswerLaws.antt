@@ -55,7 +55,8 @@ module _ (s : List ℕ) where
       → Answer (pattern-in s) (text-in s) t t′ r
   answer-parted e k p q a =
       let h : length (drop k s) ≤ length s - k = simp length-drop (omega arith) in
-      let d : take (length s - k) (drop k s) ≡ text-in s = take-all (length s - k) (drop k s) h ∙ up-to (λ j. drop j s) (e + 1) (length s) k q (λ j g. drop-of-length-le s g ∙ sym (drop-length s)) ∙ sym (p .behind) in
+      let past : drop k s ≡ drop (e + 1) s = up-to (λ j. drop j s) (e + 1) (length s) k q (λ j g. drop-of-length-le s g ∙ sym (drop-length s)) in
+      let d : take (length s - k) (drop k s) ≡ text-in s = take-all (length s - k) (drop k s) h ∙ past ∙ sym (p .behind) in
       rw (p .before) (rw d at a)
 
   pub desked : (k : ℕ) {t t′ : List ℕ} {r : ℕ} → k ≡ min input-limit (length s) → Answer (pattern-in (take k s)) (text-in (take k s)) t t′ r → longest ≤ length t

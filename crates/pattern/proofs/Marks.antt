@@ -43,14 +43,16 @@ module _ {ks gs : List ℕ} {u p i : ℕ} {e : Re} (h : Lies ks gs u p i e) wher
   pub lies-kind : {k : ℕ} → Shape k e → getD ks i 0 ≡ k
   lies-kind {k} (leaf l n m x a) = stands-end i [] k (omega (arith, h .last, n)) (rw x at (h .kinds))
   lies-kind {k} (pair {x = x} {y = y} l g b) =
-      stands-end i (kinds y) k (omega (arith, h .last, b .node, kinds-length y)) (stands-behind (nodes x) (kinds x) (kinds y ++ (k ∷ [])) (kinds-length x) (rw (b .kind) at (h .kinds)))
+      let behind = stands-behind (nodes x) (kinds x) (kinds y ++ (k ∷ [])) (kinds-length x) (rw (b .kind) at (h .kinds)) in
+      stands-end i (kinds y) k (omega (arith, h .last, b .node, kinds-length y)) behind
   lies-kind {k} (over {x = x} l o) = stands-end i (kinds x) k (omega (arith, h .last, o .node, kinds-length x)) (rw (o .kind) at (h .kinds))
 
   module _ {k : ℕ} {x y : Re} (b : Both k x y e) where
     pub lies-arg : getD gs i 0 + 1 ≡ u + nodes x
     lies-arg =
-        let r = stands-end i (bare-args (u + nodes x) (p + size x) y) (node-of u x) (omega (arith, h .last, b .node, length-bare-args (u + nodes x) (p + size x) y))
-        (stands-behind (nodes x) (bare-args u p x) (bare-args (u + nodes x) (p + size x) y ++ (node-of u x ∷ [])) (length-bare-args u p x) (rw (b .bare u p) at (h .args))) in
+        let rest = bare-args (u + nodes x) (p + size x) y in
+        let behind = stands-behind (nodes x) (bare-args u p x) (rest ++ (node-of u x ∷ [])) (length-bare-args u p x) (rw (b .bare u p) at (h .args)) in
+        let r = stands-end i rest (node-of u x) (omega (arith, h .last, b .node, length-bare-args (u + nodes x) (p + size x) y)) behind in
         omega (arith, r, nodes-some x)
 
     pub lies-left : Lies ks gs u p (getD gs i 0) x
@@ -62,12 +64,16 @@ module _ {ks gs : List ℕ} {u p i : ℕ} {e : Re} (h : Lies ks gs u p i e) wher
     }
 
     pub lies-right : Lies ks gs (u + nodes x) (p + size x) (i - 1) y
-    lies-right = record {
-      kinds = stands-left (kinds y) (k ∷ []) (stands-behind (nodes x) (kinds x) (kinds y ++ (k ∷ [])) (kinds-length x) (rw (b .kind) at (h .kinds)));
-      args = stands-left (bare-args (u + nodes x) (p + size x) y) (node-of u x ∷ []) (stands-behind (nodes x) (bare-args u p x) (bare-args (u + nodes x) (p + size x) y ++ (node-of u x ∷ [])) (length-bare-args u p x) (rw (b .bare u p) at (h .args)));
-      last = omega (arith, h .last, b .node, nodes-some y);
-      inside = omega (arith, h .inside);
-    }
+    lies-right =
+        let rest = bare-args (u + nodes x) (p + size x) y in
+        let kinds-behind = stands-behind (nodes x) (kinds x) (kinds y ++ (k ∷ [])) (kinds-length x) (rw (b .kind) at (h .kinds)) in
+        let args-behind = stands-behind (nodes x) (bare-args u p x) (rest ++ (node-of u x ∷ [])) (length-bare-args u p x) (rw (b .bare u p) at (h .args)) in
+        record {
+          kinds = stands-left (kinds y) (k ∷ []) kinds-behind;
+          args = stands-left rest (node-of u x ∷ []) args-behind;
+          last = omega (arith, h .last, b .node, nodes-some y);
+          inside = omega (arith, h .inside);
+        }
 
   pub lies-inner : {k : ℕ} {x : Re} → Over k x e → Lies ks gs u p (i - 1) x
   lies-inner {k} {x} o = record {
@@ -87,7 +93,8 @@ module _ {ks gs : List ℕ} {u p i : ℕ} {e : Re} (h : Lies ks gs u p i e) wher
   }
 
 -- the right part, once the left part is numbered
-lies-after : {ks gs gs′ : List ℕ} {u p i k : ℕ} {x y e : Re} (m : ℕ) → Lies ks gs u p i e → Both k x y e → gs′ ≡ sets gs u (args u m p x) → Lies ks gs′ (u + nodes x) (p + size x) (i - 1) y
+lies-after : {ks gs gs′ : List ℕ} {u p i k : ℕ} {x y e : Re} (m : ℕ) → Lies ks gs u p i e → Both k x y e → gs′ ≡ sets gs u (args u m p x)
+    → Lies ks gs′ (u + nodes x) (p + size x) (i - 1) y
 lies-after {gs = gs} {gs′} {u} {p} {x = x} m h b q =
     lies-frame (lies-right h b) gs′ (ap length q ∙ simp length-sets)
     (λ j g l. ap (λ (r : List ℕ). getD r j 0) q ∙ sets-behind gs u (args u m p x) j (omega (arith, args-length u m p x)))
@@ -147,7 +154,8 @@ leaf-numbers {ks} {gs} {i} {m} l e u p h = go (shape e .shape)
     go (pair a c b) = absurd (omega (arith, l, a, lies-kind h (pair a c b)))
     go (over a o) = absurd (omega (arith, l, a, lies-kind h (over a o)))
 
-pub pair-numbers : {ks gs gs₁ gs₂ : List ℕ} {i m n r : ℕ} → 2 ≤ getD ks i 0 → getD ks i 0 < 4 → Numbers ks gs gs₁ (getD gs i 0) m n → Numbers ks gs₁ gs₂ (i - 1) n r → Numbers ks gs gs₂ i m r
+pub pair-numbers : {ks gs gs₁ gs₂ : List ℕ} {i m n r : ℕ} → 2 ≤ getD ks i 0 → getD ks i 0 < 4 → Numbers ks gs gs₁ (getD gs i 0) m n
+    → Numbers ks gs₁ gs₂ (i - 1) n r → Numbers ks gs gs₂ i m r
 pair-numbers {ks} {gs} {gs₁} {gs₂} {i} {m} {n} {r} l g f f′ e u p h = go (shape e .shape)
   where
     go : {k : ℕ} → Shape k e → Numbered u p m e gs gs₂ r
@@ -182,10 +190,9 @@ over-numbers {ks} {gs} {gs₁} {i} {m} {r} g f e u p h = go (shape e .shape)
     go (pair a c b) = absurd (omega (arith, g, c, lies-kind h (pair a c b)))
     go (over {x = x} a o) =
         let q = rw (add-one m) at (f x u p (lies-below (m + 1) h o)) in
-        let n = args-length u (suc m) p x in
+        let row = args u (suc m) p x in
+        let behind : i ≡ u + length row = omega (arith, args-length u (suc m) p x, h .last, o .node) in
         record {
-          arg =
-              rw (o .arg u m p)
-              (writes gs u (args u (suc m) p x) (suc m ∷ []) refl (q .arg ∙ sets-comm gs u (args u (suc m) p x) i (suc m) (omega (arith, n, h .last, o .node))) (omega (arith, n, h .last, o .node)));
+          arg = rw (o .arg u m p) (writes gs u row (suc m ∷ []) refl (q .arg ∙ sets-comm gs u row i (suc m) (omega arith)) behind);
           marks = omega (arith, q .marks, o .mark);
         }

@@ -6,15 +6,17 @@ use native.Mathlib.Omega.{arith}
 use native.Mathlib.Numerals.{add-one}
 use lib.ListN.{length, getD}
 use Rattle.sets.specs.declared.class.Class.{Class}
-use Rattle.meaning.specs.Expression.{Re, eps, pos, cat, alt, branch, star, plus, opt}
+use Rattle.meaning.specs.Expression.{Re, eps, pos, cat, alt, branch}
 use Rattle.grammar.specs.Machine.{Sign, is-star, is-plus, is-opt}
 use Rattle.grammar.specs.ByteTests as tests
-use Rattle.grammar.specs.Contract.{Atom-done, Item-done, Branch-done, Fronts-done, List-done, atom-unit, atom-group, item-signed, item-bare, branch-first, branch-more, fronts-first, fronts-more, list-lone, list-several, Item-bad, Branch-bad, List-bad, atom-group-bad, atom-group-open, list-next-bad}
+use Rattle.grammar.specs.Contract.{Atom-done, Item-done, Branch-done, Fronts-done, List-done, Item-bad, Branch-bad, List-bad}
+use Rattle.grammar.specs.Contract.{atom-unit, atom-group, item-signed, item-bare, branch-first, branch-more, fronts-first, fronts-more, list-lone, list-several}
+use Rattle.grammar.specs.Contract.{atom-group-bad, atom-group-open, list-next-bad}
 use Rattle.pattern.specs.Stores.{Stores, stores, Put, Keeps, Became, Wrote, Moved, Within}
 use Rattle.pattern.specs.Letters.{Letter-to, Position-done}
 use Rattle.pattern.specs.Parts.{Byte-at, End, of-text, by-bar, by-close, Signed, star-at, plus-at, opt-at, none-at, Read-to, Fronts-at}
 use Rattle.pattern.specs.declared.nodes.Cursor.{Cursor}
-use Rattle.pattern.proofs.Written.{over-branch, over-star, over-plus, over-opt, both-cat, both-alt, wrote-eps, wrote-pos, wrote-over, wrote-both, wrote-from, wrote-to}
+use Rattle.pattern.proofs.Written.{Over, over-branch, over-star, over-plus, over-opt, both-cat, both-alt, wrote-eps, wrote-pos, wrote-over, wrote-both, wrote-from, wrote-to}
 
 -- what is read between two places, where the second place and the depth go by other names
 there : {s : List ℕ} {i j j′ n n′ : ℕ} {e : Re} (D : List ℕ → ℕ → ℕ → Re → ℕ → Type 0) → j′ ≡ j → n′ ≡ n → D s i j e n → D s i j′ e n′
@@ -73,16 +75,24 @@ pub bare-read : {s : List ℕ} {c d : Cursor} {S S′ : Stores} {k : ℕ} → Re
 bare-read h x e = record { reading = h .reading; done = item-bare (h .done) (unsigned x e); moved = h .moved; wrote = h .wrote }
 
 pub signed-read : {s : List ℕ} {c d f : Cursor} {S S₁ : Stores} {ks′ gs′ : List ℕ} {k : ℕ} → Read-to 1 Atom-done s c d S S₁ → Signed s (d .at) k → (k ≡ 0 → ⊥)
-    → Became f (d .at + 1) (d .used + 1) (d .positions) (d .marks + 1) (d .deep) → Put (d .used) k 0 (S₁ .kind) (S₁ .arg) ks′ gs′ → Read-to 1 Item-done s c f S (stores ks′ gs′ (S₁ .word))
+    → Became f (d .at + 1) (d .used + 1) (d .positions) (d .marks + 1) (d .deep) → Put (d .used) k 0 (S₁ .kind) (S₁ .arg) ks′ gs′
+    → Read-to 1 Item-done s c f S (stores ks′ gs′ (S₁ .word))
 signed-read {s} {c} {d} {f} {S} {S₁} {ks′} {gs′} h x n b p = go x n p
   where
-    ends : {r : Re → Re} {v : ℕ} → Byte-at s (d .at) v → Sign v r → Item-done s (c .at) (f .at) (r (h .reading)) (f .deep)
-    ends y z = there Item-done (b .at) (b .deep) (item-signed s (d .at) (y .inside) (h .done) (tests.signed (y .is) z))
+    -- by the sign v, which makes r of what it stands behind
+    by : {r : Re → Re} {k v : ℕ} → Over k (h .reading) (r (h .reading)) → Byte-at s (d .at) v → Sign v r
+        → Put (d .used) k 0 (S₁ .kind) (S₁ .arg) ks′ gs′ → Read-to 1 Item-done s c f S (stores ks′ gs′ (S₁ .word))
+    by {r} o y z q = record {
+      reading = r (h .reading);
+      done = there Item-done (b .at) (b .deep) (item-signed s (d .at) (y .inside) (h .done) (tests.signed (y .is) z));
+      moved = omega (arith, h .moved, b, y .inside);
+      wrote = wrote-over o (h .wrote) b q;
+    }
 
     go : {k : ℕ} → Signed s (d .at) k → (k ≡ 0 → ⊥) → Put (d .used) k 0 (S₁ .kind) (S₁ .arg) ks′ gs′ → Read-to 1 Item-done s c f S (stores ks′ gs′ (S₁ .word))
-    go (star-at y) l q = record { reading = star (h .reading); done = ends y is-star; moved = omega (arith, h .moved, b, y .inside); wrote = wrote-over (over-star (h .reading)) (h .wrote) b q }
-    go (plus-at y) l q = record { reading = plus (h .reading); done = ends y is-plus; moved = omega (arith, h .moved, b, y .inside); wrote = wrote-over (over-plus (h .reading)) (h .wrote) b q }
-    go (opt-at y) l q = record { reading = opt (h .reading); done = ends y is-opt; moved = omega (arith, h .moved, b, y .inside); wrote = wrote-over (over-opt (h .reading)) (h .wrote) b q }
+    go (star-at y) l q = by (over-star (h .reading)) y is-star q
+    go (plus-at y) l q = by (over-plus (h .reading)) y is-plus q
+    go (opt-at y) l q = by (over-opt (h .reading)) y is-opt q
     go (none-at y) l q = absurd (l refl)
 
 -- ---- branches
@@ -103,7 +113,8 @@ next-item h g b p = record {
 -- ---- lists
 
 pub first-front : {s : List ℕ} {c d f : Cursor} {S S₁ : Stores} {ks′ gs′ : List ℕ} → Read-to 1 Branch-done s c d S S₁ → Byte-at s (d .at) 124
-    → Became f (d .at) (d .used + 1) (d .positions) (d .marks + 1) (d .deep) → Put (d .used) 4 0 (S₁ .kind) (S₁ .arg) ks′ gs′ → Read-to 0 Fronts-at s c f S (stores ks′ gs′ (S₁ .word))
+    → Became f (d .at) (d .used + 1) (d .positions) (d .marks + 1) (d .deep) → Put (d .used) 4 0 (S₁ .kind) (S₁ .arg) ks′ gs′
+    → Read-to 0 Fronts-at s c f S (stores ks′ gs′ (S₁ .word))
 first-front h x b p = record {
   reading = branch (h .reading);
   done = there Fronts-at (b .at) (b .deep) (fronts-first (h .done) (x .inside) (x .is));
@@ -180,8 +191,8 @@ module _ {s : List ℕ} {c : Cursor} {i u q m n : ℕ} where
   pub open-group : {d : Cursor} {S S′ : Stores} → Byte-at s i 40 → Became c (i + 1) u q m n → Read-to 1 List-done s c d S S′ → length s ≤ d .at → Item-bad s i (d .at)
   open-group o b h l = atom-group-open s i (o .inside) (o .is) (rw (b .at) at (h .done)) (omega (arith, h .moved .inside, l))
 
-pub no-next : {s : List ℕ} {c d d′ : Cursor} {S S′ : Stores} {u q m n p : ℕ} → Read-to 0 Fronts-at s c d S S′ → Byte-at s (d .at) 124 → Became d′ (d .at + 1) u q m n → Branch-bad s (d′ .at) p
-    → List-bad s (c .at) p
+pub no-next : {s : List ℕ} {c d d′ : Cursor} {S S′ : Stores} {u q m n p : ℕ} → Read-to 0 Fronts-at s c d S S′ → Byte-at s (d .at) 124
+    → Became d′ (d .at + 1) u q m n → Branch-bad s (d′ .at) p → List-bad s (c .at) p
 no-next h x b g = list-next-bad (h .done) (omega (arith, x .inside)) (rw (b .at) at g)
 
 pub byte-there : {s : List ℕ} {i j b : ℕ} → j ≡ i → Byte-at s i b → Byte-at s j b

@@ -49,8 +49,11 @@ pub written-twice : {t : List ℕ} (n : ℕ) (l r : List ℕ) → t ≡ sets (ze
 written-twice {t} n l r q e h =
     let q′ : t ≡ padded n l = q ∙ written-once n l h in
     let long : length t ≡ n = ap length q ∙ length-sets (zeros n) 0 l ∙ length-zeros n in
-    front t r (omega arith)
-    ∙ ap (λ (v : List ℕ). r ++ v) (ap₂ (λ (k : ℕ) (v : List ℕ). drop k v) (sym e) q′ ∙ drop-append-seam l (zeros (n - length l)) ∙ ap (λ (k : ℕ). zeros (n - k)) e)
+    let rest : drop (length r) t ≡ zeros (n - length r) =
+    ap₂ (λ (k : ℕ) (v : List ℕ). drop k v) (sym e) q′
+    ∙ drop-append-seam l (zeros (n - length l))
+    ∙ ap (λ (k : ℕ). zeros (n - k)) e in
+    front t r (omega arith) ∙ ap (λ (v : List ℕ). r ++ v) rest
 
 -- ---- what is read of the whole
 
@@ -82,7 +85,8 @@ whole b h = record {
 
 -- ---- refusals
 
-pub refusal : {s : List ℕ} {r : Reading} {a : Answer} → Refusal r a → Read s (number-of r) (value-of r) no-parts → Read s (number-of (a .reading)) (value-of (a .reading)) (parts-of (a .pattern))
+pub refusal : {s : List ℕ} {r : Reading} {a : Answer} → Refusal r a → Read s (number-of r) (value-of r) no-parts
+    → Read s (number-of (a .reading)) (value-of (a .reading)) (parts-of (a .pattern))
 refusal h q = rw (h .reading, h .no-parts) q
 
 module _ {s : List ℕ} (short : length s ≤ 512) where
@@ -133,12 +137,22 @@ module _ {s : List ℕ} (short : length s ≤ 512) where
           read-whole {r} l k a c x y z = rw same (accepted all)
             where
               all : Accepted s (w .reading)
-              all = record { short = short; depth = d .deep; denotes = denotes; nesting = shallow; few-positions = omega (arith, few-positions, w .places); few-marks = omega (arith, l, w .marked) }
+              all = record {
+                short = short;
+                depth = d .deep;
+                denotes = denotes;
+                nesting = shallow;
+                few-positions = omega (arith, few-positions, w .places);
+                few-marks = omega (arith, l, w .marked);
+              }
 
               numbered : r .arg ≡ padded 1024 (args 0 0 0 (w .reading))
               numbered =
+                  let bare = bare-args 0 0 (w .reading) in
+                  let full = args 0 0 0 (w .reading) in
+                  let long : length bare ≡ nodes (w .reading) = length-bare-args 0 0 (w .reading) in
                   a (w .reading) 0 0 lies .arg
-                  ∙ written-twice 1024 (bare-args 0 0 (w .reading)) (args 0 0 0 (w .reading)) (w .arg) (length-bare-args 0 0 (w .reading) ∙ sym (args-length 0 0 0 (w .reading))) (omega (arith, few-nodes, length-bare-args 0 0 (w .reading)))
+                  ∙ written-twice 1024 bare full (w .arg) (long ∙ sym (args-length 0 0 0 (w .reading))) (omega (arith, few-nodes, long))
 
               same : parts-of r ≡ read-pattern (w .reading)
               same =

@@ -77,10 +77,11 @@ wrote-over {k} {x} {e} {c} {d} {f} {S} {S₁} o w b p = record {
   used = omega (arith, o .node, w .used, b .used);
   places = omega (arith, o .place, w .places, b .places);
   marked = omega (arith, o .mark, w .marked, b .marked);
-  kind = rw (o .kind) (writes (S .kind) (c .used) (kinds x) (k ∷ []) (w .kind) (p .kind) (w .used ∙ ap (λ (n : ℕ). c .used + n) (sym (kinds-length x))));
+  kind = rw (o .kind) (writes (S .kind) (c .used) (kinds x) (k ∷ []) (w .kind) (p .kind) (omega (arith, w .used, kinds-length x)));
   arg =
+      let row = bare-args (c .used) (c .positions) x in
       rw (o .bare (c .used) (c .positions))
-      (writes (S .arg) (c .used) (bare-args (c .used) (c .positions) x) (0 ∷ []) (w .arg) (p .arg) (w .used ∙ ap (λ (n : ℕ). c .used + n) (sym (length-bare-args (c .used) (c .positions) x))));
+      (writes (S .arg) (c .used) row (0 ∷ []) (w .arg) (p .arg) (omega (arith, w .used, length-bare-args (c .used) (c .positions) x)));
   word = rw (o .word) (w .word);
 }
 

@@ -2,7 +2,8 @@
 use borrow.Author.Needs.{needs}
 use native.Mathlib.Omega.{arith}
 use mathlib.Core.Path.{_≡_, refl}
-use Prim.Native.Nat.{_<_}
+use mathlib.Core.List.{List}
+use Prim.Native.Nat.{ℕ, _≤_, _<_}
 use lib.ListN.{length, getD}
 use Rattle.meaning.specs.Promise.{long-pattern}
 use Rattle.laws.specs.Holds.{nodes-some}
@@ -11,9 +12,18 @@ use Rattle.pattern.proofs.Whole.{Whole, whole, refusal, stopped, cut-sh
 use Rattle.pattern.proofs.read.Statement.{statement}
 use Rattle.pattern.proofs.read.Tie as tie
 
+-- where the list was read: the pattern, which is short
+abbrev text : tie.After-known-told2 → List ℕ
+text c = c .before .before .before .before .before .before .before .before .before .before .args .pattern .now
+
+short : (c : tie.After-known-told2) → length (text c) ≤ 512
+short c = c .before .before .before .before .before .before .before .before .if1 .left
+
 -- the list that was read, and the byte that it ends before
-listed : (c : tie.After-known-told2) → Whole (c .before .before .before .before .before .before .before .before .before .before .args .pattern .now) (c .before .d .given .0 .0) (stores (c .before .before .before .list .last .1 .0) (c .before .before .before .list .last .1 .1 .0) (c .before .before .before .list .last .1 .1 .1 .0)) × (c .before .d .given .0 .0 .at < length (c .before .before .before .before .before .before .before .before .before .before .args .pattern .now) → getD (c .before .before .before .before .before .before .before .before .before .before .args .pattern .now) (c .before .d .given .0 .0 .at) 0 ≡ 41)
-listed c = let h = rw (c .before .d .given .1) at (c .before .before .before .list .ensures) in (whole {S = stores (c .before .before .before .list .last .1 .0) (c .before .before .before .list .last .1 .1 .0) (c .before .before .before .list .last .1 .1 .1 .0)} (c .before .before .before .before .start .ensures) (h .0), h .1)
+listed : (c : tie.After-known-told2) → let d = c .before .d .given .0 .0 in let left = c .before .before .before .list .last in
+    Whole (text c) d (stores (left .1 .0) (left .1 .1 .0) (left .1 .1 .1 .0)) × (d .at < length (text c) → getD (text c) (d .at) 0 ≡ 41)
+listed c = let h = rw (c .before .d .given .1) at (c .before .before .before .list .ensures) in
+    (whole (c .before .before .before .before .start .ensures) (h .0), h .1)
 
 refused-requires : tie.Need-refused-requires
 refused-requires c κs = search needs
@@ -40,38 +50,51 @@ refused-requires-3 : tie.Need-refused-requires-3
 refused-requires-3 c κs = search needs
 
 returns-2 : tie.Need-returns-2
-returns-2 c = let h = listed (c .before .before) in
-    refusal (c .refused3 .ensures) (cut-short (c .before .before .before .before .before .before .before .before .before .before .if1 .left) (h .0) (λ i l. omega (arith, c .before .before .before .before .before .before .before .before .before .before .before .shared-slice-known .given i)) (c .before .if2 .taken) (h .1 (c .before .if2 .taken)))
+returns-2 c = let read = c .before .before in let h = listed read in
+    let bytes = read .before .before .before .before .before .before .before .before .before .shared-slice-known .given in
+    let inside = c .before .if2 .taken in
+    refusal (c .refused3 .ensures) (cut-short (short read) (h .0) (λ i l. omega (arith, bytes i)) inside (h .1 inside))
 
 refused-requires-4 : tie.Need-refused-requires-4
 refused-requires-4 c κs = search needs
 
 returns-3 : tie.Need-returns-3
-returns-3 c = refusal (c .refused4 .ensures) (too-deep (c .before .before .before .before .before .before .before .before .before .before .before .before .if1 .left) (listed (c .before .before .before .before) .0) (c .before .before .before .if2 .left) (c .before .if3 .taken))
+returns-3 c = let end = c .before .before .before in let read = end .before in
+    refusal (c .refused4 .ensures) (too-deep (short read) (listed read .0) (end .if2 .left) (c .before .if3 .taken))
 
 refused-requires-5 : tie.Need-refused-requires-5
 refused-requires-5 c κs = search needs
 
 returns-4 : tie.Need-returns-4
-returns-4 c = refusal (c .refused5 .ensures) (many-positions (c .before .before .before .before .before .before .before .before .before .before .before .before .before .before .if1 .left) (listed (c .before .before .before .before .before .before) .0) (c .before .before .before .before .before .if2 .left) (c .before .before .before .if3 .left) (c .before .if4 .taken))
+returns-4 c = let depth = c .before .before .before in let end = depth .before .before in let read = end .before in
+    refusal (c .refused5 .ensures) (many-positions (short read) (listed read .0) (end .if2 .left) (depth .if3 .left) (c .before .if4 .taken))
 
 refused-requires-6 : tie.Need-refused-requires-6
 refused-requires-6 c κs = search needs
 
 returns-5 : tie.Need-returns-5
-returns-5 c = refusal (c .refused6 .ensures) (many-marks (c .before .before .before .before .before .before .before .before .before .before .before .before .before .before .before .before .if1 .left) (listed (c .before .before .before .before .before .before .before .before) .0) (c .before .before .before .before .before .before .before .if2 .left) (c .before .before .before .before .before .if3 .left) (c .before .before .before .if4 .left) (c .before .if5 .taken))
+returns-5 c = let places = c .before .before .before in let depth = places .before .before in let end = depth .before .before in let read = end .before in
+    let whole-list = listed read .0 in
+    refusal (c .refused6 .ensures) (many-marks (short read) whole-list (end .if2 .left) (depth .if3 .left) (places .if4 .left) (c .before .if5 .taken))
 
 sub-number : tie.Need-sub-number
-sub-number c = let h = listed (c .before .before .before .before .before .before .before .before .before) in omega (arith, h .0 .used, nodes-some (h .0 .reading))
+sub-number c = let h = listed (c .before .before .before .before .before .before .before .before .before) .0 in omega (arith, h .used, nodes-some (h .reading))
 
 number-requires : tie.Need-number-requires
-number-requires c κs = numberable (c .before .before .before .before .before .before .before .before .before .before .before .before .before .before .before .before .before .if1 .left) (listed (c .before .before .before .before .before .before .before .before .before) .0) (c .before .before .before .before .before .before .before .before .if2 .left) (c .before .before .before .before .before .before .if3 .left) (c .before .before .before .before .if4 .left) (c .before .before .if5 .left)
+number-requires c κs = let marks = c .before .before in let places = marks .before .before in let depth = places .before .before in
+    let end = depth .before .before in let read = end .before in
+    numberable (short read) (listed read .0) (end .if2 .left) (depth .if3 .left) (places .if4 .left) (marks .if5 .left)
 
 returns-6 : tie.Need-returns-6
-returns-6 c = refusal (c .refused2 .ensures) (stopped (c .before .before .before .before .before .before .before .before .before .if1 .left) (λ i l. omega (arith, c .before .before .before .before .before .before .before .before .before .before .shared-slice-known .given i)) (c .before .before .before .before .before .start .ensures) (rw (c .before .before .place .given .1) at (c .before .before .before .before .list .ensures)))
+returns-6 c = let short-pattern = c .before .before .before .before .before .before .before .before .before .if1 .left in
+    let bytes = c .before .before .before .before .before .before .before .before .before .before .shared-slice-known .given in
+    let bad = rw (c .before .before .place .given .1) at (c .before .before .before .before .list .ensures) in
+    refusal (c .refused2 .ensures) (stopped short-pattern (λ i l. omega (arith, bytes i)) (c .before .before .before .before .before .start .ensures) bad)
 
 returns-7 : tie.Need-returns-7
-returns-7 c = read-whole (c .before .before .before .before .before .before .before .before .before .before .before .before .before .before .before .before .before .before .if1 .left) (listed (c .before .before .before .before .before .before .before .before .before .before) .0) (c .before .before .before .before .before .before .before .before .before .if2 .left) (c .before .before .before .before .before .before .before .if3 .left) (c .before .before .before .before .before .if4 .left) (c .before .before .before .if5 .left) refl (c .number .ensures) refl refl refl refl
+returns-7 c = let marks = c .before .before .before in let places = marks .before .before in let depth = places .before .before in
+    let end = depth .before .before in let read = end .before in let numbered = c .number .ensures in
+    read-whole (short read) (listed read .0) (end .if2 .left) (depth .if3 .left) (places .if4 .left) (marks .if5 .left) refl numbered refl refl refl refl
 
 pub read-spec : {M : Type 1} → statement M
 read-spec =

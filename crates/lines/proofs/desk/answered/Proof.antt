@@ -26,13 +26,16 @@ slice-aggregate-answer : tie.Need-slice-aggregate-answer
 slice-aggregate-answer c = search needs
 
 answer-requires : tie.Need-answer-requires
-answer-requires c κs = (search needs, answer-fits (c .before .before .before .before .before .before .before .first-tree .ensures) (c .before .before .before .number .ensures) (c .before .before .value .ensures))
+answer-requires c κs = let number = c .before .before .before in let tree = number .before .before .before .before .first-tree .ensures in
+    (search needs, answer-fits tree (number .number .ensures) (c .before .before .value .ensures))
 
 same-length : tie.Need-same-length
 same-length c = search needs
 
 returns : tie.Need-returns
-returns c = answer-of (c .before .before .before .before .before .before .before .before .before .before .first-tree .ensures) (c .before .before .before .before .before .before .number .ensures) (c .before .before .before .before .before .value .ensures) (c .before .before .before .before .flag .ensures) (c .before .before .answer .ensures .0) (c .before .before .answer .ensures .1)
+returns c = let flag = c .before .before .before .before in let value = flag .before in let number = value .before in
+    let tree = number .before .before .before .before .first-tree .ensures in let lines = c .before .before .answer .ensures in
+    answer-of tree (number .number .ensures) (value .value .ensures) (flag .flag .ensures) (lines .0) (lines .1)
 
 pub answered-spec : {M : Type 1} → statement M
 answered-spec =

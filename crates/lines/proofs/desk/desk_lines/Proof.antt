@@ -16,7 +16,8 @@ parted-requires : tie.Need-parted-requires
 parted-requires c κs = search needs
 
 returns : tie.Need-returns
-returns c = desked (c .before .before .before .before .before .args .input .now) (c .before .before .before .least .result) (c .before .before .before .least .ensures) (c .parted .ensures) (search needs)
+returns c = let least = c .before .before .before in
+    desked (least .before .before .args .input .now) (least .least .result) (least .least .ensures) (c .parted .ensures) (search needs)
 
 pub desk-lines-spec : {M : Type 1} → statement M
 desk-lines-spec =

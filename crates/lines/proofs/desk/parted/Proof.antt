@@ -34,7 +34,8 @@ same-length : tie.Need-same-length
 same-length c = search needs
 
 returns : tie.Need-returns
-returns c = answer-parted (c .before .before .before .before .before .before .before .before .before .before .args .taken .now) (c .before .before .before .before .before .before .before .split .result) (c .before .before .before .before .before .before .least .result) (c .before .before .before .before .before .before .before .split .ensures) (c .before .before .before .before .before .before .least .ensures) (c .before .before .answered .ensures)
+returns c = let from = c .before .before .before .before .before .before in let end = from .before in let taken = end .before .before .before .args .taken .now in
+    answer-parted taken (end .split .result) (from .least .result) (end .split .ensures) (from .least .ensures) (c .before .before .answered .ensures)
 
 pub parted-spec : {M : Type 1} → statement M
 parted-spec =

@@ -35,10 +35,12 @@ loop-less : tie.Need-loop-less Inv-loop μ-loop
 loop-less c = search needs
 
 loop-again : tie.Need-loop-again Inv-loop μ-loop
-loop-again c = (search needs, same-more (c .before .before .before .before .before .before .args .line .now) (c .before .before .before .before .before .before .args .word .now) (c .before .before .before .before .loop .i) (search needs) (search needs) (c .before .before .before .before .loop .inv .1) (c .if2 .left))
+loop-again c = let head = c .before .before .before .before in let entry = head .before .before in
+    (search needs, same-more (entry .args .line .now) (entry .args .word .now) (head .loop .i) (search needs) (search needs) (head .loop .inv .1) (c .if2 .left))
 
 returns-3 : tie.Need-returns-3 Inv-loop μ-loop
-returns-3 c = headed-all (c .before .before .before .args .line .now) (c .before .before .before .args .word .now) (c .before .loop .i) (search needs) (search needs) (c .before .loop .inv .1)
+returns-3 c = let head = c .before in let entry = head .before .before in
+    headed-all (entry .args .line .now) (entry .args .word .now) (head .loop .i) (search needs) (search needs) (head .loop .inv .1)
 
 pub is-word-spec : {M : Type 1} → statement M
 is-word-spec =

@@ -39,7 +39,8 @@ module _ (t : ℕ) where
   decimal-requires c κs = omega arith
 
   put-requires-2 : lts.Need-put-requires-2 (claims t) (at t) own.Post
-  put-requires-2 c κs = omega (arith, digits-tenth (c .before .before .before .before .before .before .before .args .n) (omega arith), c .before .before .before .decimal .ensures .moved)
+  put-requires-2 c κs = let front = c .before .before .before in
+      omega (arith, digits-tenth (front .before .before .before .before .args .n) (omega arith), front .decimal .ensures .moved)
 
   same-length : lts.Need-same-length (claims t) (at t) own.Post
   same-length c = wrote-kept (c .before .before .put .ensures)
@@ -48,10 +49,26 @@ module _ (t : ℕ) where
   returns c = wrote-last (c .before .before .before .before .before .before .args .n) (omega arith) (c .before .before .put .ensures)
 
   same-length-2 : lts.Need-same-length-2 (claims t) (at t) own.Post
-  same-length-2 c = wrote-kept (wrote-then (c .before .before .before .before .before .before .decimal .ensures) (c .before .before .put2 .ensures))
+  same-length-2 c = let last = c .before .before in wrote-kept (wrote-then (last .before .before .before .before .decimal .ensures) (last .put2 .ensures))
 
   returns-2 : lts.Need-returns-2 (claims t) (at t) own.Post
-  returns-2 c = wrote-low (c .before .before .before .before .before .before .before .before .before .before .args .n) (omega arith) (omega arith) (c .before .before .before .before .before .before .decimal .ensures) (c .before .before .put2 .ensures)
+  returns-2 c = let last = c .before .before in let front = last .before .before .before .before in
+      wrote-low (front .before .before .before .before .args .n) (omega arith) (omega arith) (front .decimal .ensures) (last .put2 .ensures)
 
 pub +decimal-spec : {M : Type 1} → statement M
-+decimal-spec = close μ λ t. lts.spec (claims t) (at t) own.Post (add-low t) (cast-low t) (put-requires t) (decimal-requires t) (put-requires-2 t) (same-length t) (returns t) (same-length-2 t) (returns-2 t)
++decimal-spec =
+    close
+    μ
+    λ t. lts.spec
+    (claims t)
+    (at t)
+    own.Post
+    (add-low t)
+    (cast-low t)
+    (put-requires t)
+    (decimal-requires t)
+    (put-requires-2 t)
+    (same-length t)
+    (returns t)
+    (same-length-2 t)
+    (returns-2 t)

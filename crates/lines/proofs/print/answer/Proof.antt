@@ -14,13 +14,20 @@ same-length : tie.Need-same-length
 same-length c = search needs
 
 returns : tie.Need-returns
-returns c = let h = c .before .before .before .before .before .before .before .before .before .before .before .pre .1 (c .before .before .before .before .if1 .taken) in (wrote-tree (c .before .before .before .before .before .before .before .before .before .before .before .args .n) (c .before .before .before .before .before .before .before .before .before .before .before .args .v) (c .before .before .before .before .before .before .before .before .before .before .before .args .f) _ (c .before .before .before .before .if1 .taken) (c .before .before .before .before .before .before .before .answer-line .ensures .0) (c .before .before .tree-line .ensures .0), search needs)
+returns c =
+    let test = c .before .before .before .before in
+    let line = test .before .before .before in
+    let entry = line .before .before .before .before in
+    let zero = test .if1 .taken in
+    let h = entry .pre .1 zero in
+    (wrote-tree (entry .args .n) (entry .args .v) (entry .args .f) _ zero (line .answer-line .ensures .0) (c .before .before .tree-line .ensures .0), search needs)
 
 same-length-2 : tie.Need-same-length-2
 same-length-2 c = search needs
 
 returns-2 : tie.Need-returns-2
-returns-2 c = (wrote-refusal (c .before .before .before .before .before .before .before .args .n) (c .before .before .before .before .before .before .before .args .v) (c .before .before .before .before .before .before .before .args .f) _ (c .if1 .left) (c .before .before .before .answer-line .ensures .0), search needs)
+returns-2 c = let line = c .before .before .before in let entry = line .before .before .before .before in
+    (wrote-refusal (entry .args .n) (entry .args .v) (entry .args .f) _ (c .if1 .left) (line .answer-line .ensures .0), search needs)
 
 pub answer-spec : {M : Type 1} → statement M
 answer-spec =

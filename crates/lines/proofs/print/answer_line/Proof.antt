@@ -28,7 +28,14 @@ same-length c = search needs
 
 returns : tie.Need-returns
 unfolding answer-line
-returns c = (wrote-then (c .before .before .before .before .before .before .before .before .before .before .before .before .before .before .before .before .before .before .word .ensures) (wrote-then (c .before .before .before .before .before .before .before .before .before .before .before .before .before .before .spaced .ensures .0) (wrote-then (c .before .before .before .before .before .before .before .before .before .before .spaced2 .ensures .0) (wrote-then (c .before .before .before .before .before .before .spaced3 .ensures .0) (c .before .before .put .ensures)))), search needs)
+returns c =
+    let end = c .before .before in
+    let flag = end .before .before .before .before in
+    let value = flag .before .before .before .before in
+    let number = value .before .before .before .before in
+    let from-flag = wrote-then (flag .spaced3 .ensures .0) (end .put .ensures) in
+    let from-value = wrote-then (value .spaced2 .ensures .0) from-flag in
+    (wrote-then (number .before .before .before .before .word .ensures) (wrote-then (number .spaced .ensures .0) from-value), search needs)
 
 pub answer-line-spec : {M : Type 1} → statement M
 answer-line-spec =

@@ -17,7 +17,8 @@ same-length : tie.Need-same-length
 same-length c = search needs
 
 returns : tie.Need-returns
-returns c = wrote-then (c .before .before .before .before .before .before .before .before .before .before .put .ensures) (wrote-then (c .before .before .before .before .before .before .put2 .ensures) (c .before .before .decimal .ensures))
+returns c = let number = c .before .before in let letter = number .before .before .before .before in
+    wrote-then (letter .before .before .before .before .put .ensures) (wrote-then (letter .put2 .ensures) (number .decimal .ensures))
 
 pub lettered-spec : {M : Type 1} → statement M
 lettered-spec =

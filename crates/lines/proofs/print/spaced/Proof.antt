@@ -16,7 +16,9 @@ same-length : tie.Need-same-length
 same-length c = search needs
 
 returns : tie.Need-returns
-returns c = (wrote-then (c .before .before .before .before .before .before .put .ensures) (c .before .before .decimal .ensures), omega (arith, digits-length 20 (c .before .before .before .before .before .before .before .before .before .args .n), c .before .before .before .before .before .before .put .ensures .moved, c .before .before .decimal .ensures .moved))
+returns c = let number = c .before .before .decimal .ensures in let space = c .before .before .before .before .before .before .put .ensures in
+    let long = digits-length 20 (c .before .before .before .before .before .before .before .before .before .args .n) in
+    (wrote-then space number, omega (arith, long, space .moved, number .moved))
 
 pub spaced-spec : {M : Type 1} → statement M
 spaced-spec = tie.close (tie.spec put-requires decimal-requires same-length returns)

@@ -35,13 +35,15 @@ loop-less : tie.Need-loop-less Inv-loop μ-loop
 loop-less c = search needs
 
 loop-again : tie.Need-loop-again Inv-loop μ-loop
-loop-again c = (search needs, search needs, tokens-more (c .before .before .before .before .before .before .before .before .before .args .row .now) (c .before .before .before .before .before .before .loop .i) (search needs) (c .before .before .before .before .before .before .loop .inv .2) (c .before .before .token .ensures .0))
+loop-again c = let head = c .before .before .before .before .before .before in let row = head .before .before .before .args .row .now in
+    (search needs, search needs, tokens-more row (head .loop .i) (search needs) (head .loop .inv .2) (c .before .before .token .ensures .0))
 
 same-length : tie.Need-same-length Inv-loop μ-loop
 same-length c = wrote-kept (c .before .loop .inv .2)
 
 returns : tie.Need-returns Inv-loop μ-loop
-returns c = (tokens-all (c .before .before .before .before .args .row .now) (c .before .loop .i) (c .before .before .before .before .args .n) (search needs) (search needs) (c .before .loop .inv .2), search needs)
+returns c = let head = c .before in let entry = head .before .before .before in
+    (tokens-all (entry .args .row .now) (head .loop .i) (entry .args .n) (search needs) (search needs) (head .loop .inv .2), search needs)
 
 pub tokens-spec : {M : Type 1} → statement M
 tokens-spec =

@@ -22,7 +22,8 @@ same-length c = search needs
 
 returns : tie.Need-returns
 unfolding tree-line
-returns c = (wrote-then (c .before .before .before .before .before .before .before .before .before .before .word .ensures) (wrote-then (c .before .before .before .before .before .before .tokens .ensures .0) (c .before .before .put .ensures)), search needs)
+returns c = let end = c .before .before in let row = end .before .before .before .before in
+    (wrote-then (row .before .before .before .before .word .ensures) (wrote-then (row .tokens .ensures .0) (end .put .ensures)), search needs)
 
 pub tree-line-spec : {M : Type 1} → statement M
 tree-line-spec =

@@ -21,7 +21,8 @@ shared-slice-read-put : tie.Need-shared-slice-read-put Inv-loop μ-loop
 shared-slice-read-put c = search needs
 
 put-requires : tie.Need-put-requires Inv-loop μ-loop
-put-requires c κs = omega (arith, c .before .before .before .loop .inv .1 .moved, length-take (c .before .before .before .loop .i) (c .before .before .before .before .before .before .args .w .now))
+put-requires c κs = let head = c .before .before .before in let w = head .before .before .before .args .w .now in
+    omega (arith, head .loop .inv .1 .moved, length-take (head .loop .i) w)
 
 add-i : tie.Need-add-i Inv-loop μ-loop
 add-i c = search needs
@@ -30,7 +31,8 @@ loop-less : tie.Need-loop-less Inv-loop μ-loop
 loop-less c = search needs
 
 loop-again : tie.Need-loop-again Inv-loop μ-loop
-loop-again c = (search needs, word-more (c .before .before .before .before .before .before .before .before .before .args .w .now) (c .before .before .before .before .before .before .loop .i) (search needs) (c .before .before .before .before .before .before .loop .inv .1) (c .before .before .put .ensures))
+loop-again c = let head = c .before .before .before .before .before .before in let w = head .before .before .before .args .w .now in
+    (search needs, word-more w (head .loop .i) (search needs) (head .loop .inv .1) (c .before .before .put .ensures))
 
 same-length : tie.Need-same-length Inv-loop μ-loop
 same-length c = wrote-kept (c .before .loop .inv .1)

@@ -34,7 +34,8 @@ with-range-requires : tie.Need-with-range-requires Inv-loop μ-loop
 with-range-requires c κs = search needs
 
 loop-holds : tie.Need-loop-holds Inv-loop μ-loop
-loop-holds c = first-range _ _ (rw (c .before .before .before .c .given .1) at (c .before .before .before .before .before .class-item .ensures)) (c .before .none .ensures) (c .with-range .ensures)
+loop-holds c = let range = rw (c .before .before .before .c .given .1) at (c .before .before .before .before .before .class-item .ensures) in
+    first-range _ _ range (c .before .none .ensures) (c .with-range .ensures)
 
 shared-slice-read-if1 : tie.Need-shared-slice-read-if1 Inv-loop μ-loop
 shared-slice-read-if1 c = search needs
@@ -56,7 +57,9 @@ refused-requires-2 : tie.Need-refused-requires-2 Inv-loop μ-loop
 refused-requires-2 c κs = search needs
 
 returns-2 : tie.Need-returns-2 Inv-loop μ-loop
-returns-2 c = no-class _ (c .refused2 .ensures) (class-more-bad (c .before .before .before .before .before .before .before .before .loop .inv .done) (c .before .before .before .before .before .before .before .loop-test .taken) (c .before .before .before .before .before .if1 .left) (rw (c .before .before .k2 .given .1) at (c .before .before .before .before .class-item2 .ensures)))
+returns-2 c = let test = c .before .before .before .before .before in let inside = test .before .before in let head = inside .before in
+    let bad = rw (c .before .before .k2 .given .1) at (c .before .before .before .before .class-item2 .ensures) in
+    no-class _ (c .refused2 .ensures) (class-more-bad (head .loop .inv .done) (inside .loop-test .taken) (test .if1 .left) bad)
 
 enum-known-c-2 : tie.Need-enum-known-c-2 Inv-loop μ-loop
 enum-known-c-2 c = search needs
@@ -68,16 +71,20 @@ loop-less : tie.Need-loop-less Inv-loop μ-loop
 loop-less c = let h = rw (c .before .before .c2 .given .1) at (c .before .before .before .before .class-item2 .ensures) in omega (arith, h .on)
 
 loop-again : tie.Need-loop-again Inv-loop μ-loop
-loop-again c = next-range _ _ (c .before .before .before .before .before .before .before .before .loop .inv) (rw (c .before .before .c2 .given .1) at (c .before .before .before .before .class-item2 .ensures)) (c .with-range2 .ensures)
+loop-again c = let head = c .before .before .before .before .before .before .before .before in
+    let range = rw (c .before .before .c2 .given .1) at (c .before .before .before .before .class-item2 .ensures) in
+    next-range _ _ (head .loop .inv) range (c .with-range2 .ensures)
 
 refused-requires-3 : tie.Need-refused-requires-3 Inv-loop μ-loop
 refused-requires-3 c κs = search needs
 
 returns-3 : tie.Need-returns-3 Inv-loop μ-loop
-returns-3 c = no-class _ (c .refused .ensures) (class-first-bad (c .before .before .before .before .before .before .pre) (rw (c .before .before .k .given .1) at (c .before .before .before .before .class-item .ensures)))
+returns-3 c = let bad = rw (c .before .before .k .given .1) at (c .before .before .before .before .class-item .ensures) in
+    no-class _ (c .refused .ensures) (class-first-bad (c .before .before .before .before .before .before .pre) bad)
 
 returns-4 : tie.Need-returns-4 Inv-loop μ-loop
-returns-4 c = no-class _ (c .refused3 .ensures) (class-open (c .before .before .loop .inv .done) (omega (arith, c .before .before .loop .inv .on, c .before .loop-test .left)))
+returns-4 c = let inv = c .before .before .loop .inv in
+    no-class _ (c .refused3 .ensures) (class-open (inv .done) (omega (arith, inv .on, c .before .loop-test .left)))
 
 pub class-spec : {M : Type 1} → statement M
 class-spec =

@@ -37,7 +37,8 @@ add-t16 : tie.Need-add-t16
 add-t16 c = search needs
 
 returns-6 : tie.Need-returns-6
-returns-6 c = (bare-at (c .before .before .before .before .before .if1 .taken) (class-plain (c .before .before .before .if2 .left) (c .before .before .if3 .left) (c .before .if4 .left) (c .if5 .left)), record { on = omega arith; inside = omega arith })
+returns-6 c = let plain = class-plain (c .before .before .before .if2 .left) (c .before .before .if3 .left) (c .before .if4 .left) (c .if5 .left) in
+    (bare-at (c .before .before .before .before .before .if1 .taken) plain, record { on = omega arith; inside = omega arith })
 
 returns-7 : tie.Need-returns-7
 returns-7 c = char-end (omega arith)

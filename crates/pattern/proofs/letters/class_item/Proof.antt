@@ -1,9 +1,22 @@
 -- `class_item` meets its contract. Assumes nothing.
 use borrow.Author.Needs.{needs}
 use native.Mathlib.Omega.{arith}
+use Prim.Native.Nat.{_+_}
 use Rattle.grammar.specs.ClassContract.{range-single, range-span, range-bad-low, range-bad-high, range-bad-order}
+use Rattle.pattern.specs.Letters.{Byted}
+use Rattle.pattern.specs.declared.letters.One.the-variants.{Byte}
 use Rattle.pattern.proofs.letters.class_item.Statement.{statement}
 use Rattle.pattern.proofs.letters.class_item.Tie as tie
+
+-- the low end was read
+low : (c : tie.After-known-told2) → let entry = c .before .before .before .before .before in let got = c .before .c .given .0 in
+    Byted (entry .args .p .now) (entry .args .at) (Byte (got .0) (got .1 .0))
+low c = rw (c .before .c .given .1) at (c .before .before .before .class-byte .ensures)
+
+-- the high end was read, behind a dash
+high : (c : tie.After-known-told4) → let read = c .before .before .before .before .before .before .before in let got = c .before .d .given .0 in
+    Byted (read .before .before .before .before .before .args .p .now) (read .before .c .given .0 .1 .0 + 1) (Byte (got .0) (got .1 .0))
+high c = rw (c .before .d .given .1) at (c .before .before .before .class-byte2 .ensures)
 
 class-byte-requires : tie.Need-class-byte-requires
 class-byte-requires c κs = search needs
@@ -30,32 +43,32 @@ enum-known-d : tie.Need-enum-known-d
 enum-known-d c = search needs
 
 sub-t23 : tie.Need-sub-t23
-sub-t23 c = let h = rw (c .before .before .d .given .1) at (c .before .before .before .before .class-byte2 .ensures) in omega (arith, h .1)
+sub-t23 c = let h = high (c .before) in omega (arith, h .1)
 
 returns : tie.Need-returns
 returns c = range-bad-low (rw (c .before .k .given .1) at (c .before .before .before .class-byte .ensures))
 
 returns-2 : tie.Need-returns-2
-returns-2 c = let a = rw (c .before .before .before .before .before .before .before .before .c .given .1) at (c .before .before .before .before .before .before .before .before .before .before .class-byte .ensures) in
-    range-bad-high (a .0) (c .before .before .before .before .before .before .if1 .taken) (c .before .before .before .before .if2 .taken) (rw (c .before .k2 .given .1) at (c .before .before .before .class-byte2 .ensures))
+returns-2 c = let dash = c .before .before .before .before in let l = low (dash .before .before .before) in
+    let bad = rw (c .before .k2 .given .1) at (c .before .before .before .class-byte2 .ensures) in
+    range-bad-high (l .0) (dash .before .before .if1 .taken) (dash .if2 .taken) bad
 
 returns-3 : tie.Need-returns-3
-returns-3 c = let a = rw (c .before .before .before .before .before .before .before .before .before .c .given .1) at (c .before .before .before .before .before .before .before .before .before .before .before .class-byte .ensures) in
-    let h = rw (c .before .before .d .given .1) at (c .before .before .before .before .class-byte2 .ensures) in
-    range-bad-order (a .0) (c .before .before .before .before .before .before .before .if1 .taken) (c .before .before .before .before .before .if2 .taken) (h .0) (c .if3 .taken) (omega (arith, h .1))
+returns-3 c = let dash = c .before .before .before .before .before in let l = low (dash .before .before .before) in let h = high (c .before) in
+    range-bad-order (l .0) (dash .before .before .if1 .taken) (dash .if2 .taken) (h .0) (c .if3 .taken) (omega (arith, h .1))
 
 returns-4 : tie.Need-returns-4
-returns-4 c = let a = rw (c .before .before .before .before .before .before .before .before .before .c .given .1) at (c .before .before .before .before .before .before .before .before .before .before .before .class-byte .ensures) in
-    let h = rw (c .before .before .d .given .1) at (c .before .before .before .before .class-byte2 .ensures) in
-    record { done = range-span (a .0) (c .before .before .before .before .before .before .before .if1 .taken) (c .before .before .before .before .before .if2 .taken) (h .0) (c .if3 .left); on = record { on = omega (arith, h .1, a .1); inside = h .1 .inside } }
+returns-4 c = let dash = c .before .before .before .before .before in let l = low (dash .before .before .before) in let h = high (c .before) in
+    record {
+      done = range-span (l .0) (dash .before .before .if1 .taken) (dash .if2 .taken) (h .0) (c .if3 .left);
+      on = record { on = omega (arith, h .1, l .1); inside = h .1 .inside };
+    }
 
 returns-5 : tie.Need-returns-5
-returns-5 c = let a = rw (c .before .before .before .before .c .given .1) at (c .before .before .before .before .before .before .class-byte .ensures) in
-    record { done = range-single (a .0) (λ l e. c .if2 .left e); on = a .1 }
+returns-5 c = let l = low (c .before .before .before) in record { done = range-single (l .0) (λ i e. c .if2 .left e); on = l .1 }
 
 returns-6 : tie.Need-returns-6
-returns-6 c = let a = rw (c .before .before .c .given .1) at (c .before .before .before .before .class-byte .ensures) in
-    record { done = range-single (a .0) (λ l e. absurd (omega (arith, c .if1 .left, l))); on = a .1 }
+returns-6 c = let l = low (c .before) in record { done = range-single (l .0) (λ i e. absurd (omega (arith, c .if1 .left, i))); on = l .1 }
 
 pub class-item-spec : {M : Type 1} → statement M
 class-item-spec =

@@ -22,7 +22,8 @@ class-requires : tie.Need-class-requires
 class-requires c κs = search needs
 
 returns-2 : tie.Need-returns-2
-returns-2 c = class-letter (c .before .before .before .before .before .args .p .now) (c .before .before .before .before .before .args .at) (c .class .result) (c .before .before .before .if1 .left) (c .before .if2 .taken) (c .class .ensures)
+returns-2 c = let entry = c .before .before .before .before .before in
+    class-letter (entry .args .p .now) (entry .args .at) (c .class .result) (c .before .before .before .if1 .left) (c .before .if2 .taken) (c .class .ensures)
 
 shared-slice-read-d : tie.Need-shared-slice-read-d
 shared-slice-read-d c = search needs
@@ -34,19 +35,22 @@ ranged-requires : tie.Need-ranged-requires
 ranged-requires c κs = search needs
 
 returns-3 : tie.Need-returns-3
-returns-3 c = test-letter (c .ranged .ensures) (atom-escaped _ _ (c .before .before .before .before .before .before .if1 .left) (c .before .before .before .if3 .taken) (c .before .before .if4 .taken)) (omega (arith, c .before .before .if4 .taken))
+returns-3 c = let inside = c .before .before .before .before .before .before .if1 .left in let next = c .before .before .if4 .taken in
+    test-letter (c .ranged .ensures) (atom-escaped _ _ inside (c .before .before .before .if3 .taken) next) (omega (arith, next))
 
 refused-requires-2 : tie.Need-refused-requires-2
 refused-requires-2 c κs = search needs
 
 returns-4 : tie.Need-returns-4
-returns-4 c = no-letter _ (c .refused2 .ensures) (atom-cut _ _ (c .before .before .before .before .before .if1 .left) (c .before .before .if3 .taken) (omega (arith, c .before .if4 .left, c .before .before .before .before .before .if1 .left)))
+returns-4 c = let inside = c .before .before .before .before .before .if1 .left in
+    no-letter _ (c .refused2 .ensures) (atom-cut _ _ inside (c .before .before .if3 .taken) (omega (arith, c .before .if4 .left, inside)))
 
 whole-requires : tie.Need-whole-requires
 whole-requires c κs = search needs
 
 returns-5 : tie.Need-returns-5
-returns-5 c = test-letter (c .whole .ensures) (atom-dot _ _ (c .before .before .before .before .before .if1 .left) (c .before .if5 .taken)) (omega (arith, c .before .before .before .before .before .if1 .left))
+returns-5 c = let inside = c .before .before .before .before .before .if1 .left in
+    test-letter (c .whole .ensures) (atom-dot _ _ inside (c .before .if5 .taken)) (omega (arith, inside))
 
 stray-requires : tie.Need-stray-requires
 stray-requires c κs = search needs
@@ -55,13 +59,19 @@ refused-requires-3 : tie.Need-refused-requires-3
 refused-requires-3 c κs = search needs
 
 returns-6 : tie.Need-returns-6
-returns-6 c = no-letter _ (c .refused3 .ensures) (atom-stray _ _ (c .before .before .before .before .before .before .before .if1 .left) (rw (c .before .if6 .taken) at (c .before .before .stray .ensures)))
+returns-6 c = let inside = c .before .before .before .before .before .before .before .if1 .left in
+    let strays = rw (c .before .if6 .taken) at (c .before .before .stray .ensures) in
+    no-letter _ (c .refused3 .ensures) (atom-stray _ _ inside strays)
 
 ranged-requires-2 : tie.Need-ranged-requires-2
 ranged-requires-2 c κs = search needs
 
 returns-7 : tie.Need-returns-7
-returns-7 c = test-letter (c .ranged2 .ensures) (atom-plain _ _ (c .before .before .before .before .before .before .before .if1 .left) (rw (c .before .if6 .left) at (c .before .before .stray .ensures) (λ e. c .before .before .before .before .before .before .before .before .before .pre .1 (record { inside = c .before .before .before .before .before .before .before .if1 .left; is = e })) (c .before .before .before .before .before .if2 .left) (c .before .before .before .before .if3 .left) (c .before .before .before .if5 .left))) (omega (arith, c .before .before .before .before .before .before .before .if1 .left))
+returns-7 c = let no-dot = c .before .before .before in let no-escape = no-dot .before in let no-class = no-escape .before in
+    let inside = no-class .before .before .if1 .left in let no-group = no-class .before .before .before .before .pre .1 in
+    let plain = rw (c .before .if6 .left) at (c .before .before .stray .ensures) in
+    let starts = plain (λ e. no-group (record { inside = inside; is = e })) (no-class .if2 .left) (no-escape .if3 .left) (no-dot .if5 .left) in
+    test-letter (c .ranged2 .ensures) (atom-plain _ _ inside starts) (omega (arith, inside))
 
 pub letter-spec : {M : Type 1} → statement M
 letter-spec =

@@ -13,7 +13,8 @@ with-range-requires : tie.Need-with-range-requires
 with-range-requires c κs = search needs
 
 returns : tie.Need-returns
-returns c = record { past = refl; says = λ q l. c .with-range .ensures q ∙ ap (λ (b : Bool). b || range (c .before .before .args .c) (c .before .before .args .d) q) (c .before .none .ensures q) }
+returns c = let entry = c .before .before in let ends = range (entry .args .c) (entry .args .d) in
+    record { past = refl; says = λ q l. c .with-range .ensures q ∙ ap (λ (b : Bool). b || ends q) (c .before .none .ensures q) }
 
 pub ranged-spec : {M : Type 1} → statement M
 ranged-spec = tie.close (tie.spec none-requires with-range-requires returns)

@@ -24,7 +24,8 @@ returns-6 : tie.Need-returns-6
 returns-6 c = tests.stray (c .if6 .taken) at-bad
 
 returns-7 : tie.Need-returns-7
-returns-7 c = λ a b d e. tests.plain a (c .before .before .before .before .before .if1 .left) (c .before .before .before .before .if2 .left) (c .before .before .before .if3 .left) (c .before .before .if4 .left) (c .before .if5 .left) e b (c .if6 .left) d
+returns-7 c = let opt = c .before in let plus = opt .before in let star = plus .before in let bar = star .before in let close = bar .before in
+    λ a b d e. tests.plain a (close .if1 .left) (bar .if2 .left) (star .if3 .left) (plus .if4 .left) (opt .if5 .left) e b (c .if6 .left) d
 
 pub stray-spec : {M : Type 1} → statement M
 stray-spec =

@@ -15,13 +15,17 @@ enum-known-past-2 : tie.Need-enum-known-past-2
 enum-known-past-2 c = search needs
 
 position-requires : tie.Need-position-requires
-position-requires c κs = let h = rw (c .before .before .before .before .before .past2 .given .1) at (c .before .before .before .before .before .before .before .letter .ensures) in omega (arith, c .before .before .before .before .before .before .before .before .before .pre .0, c .before .before .before .before .before .before .before .before .before .pre .1, h .on)
+position-requires c κs = let read = c .before .before .before .before in let entry = read .before .before .before .before .before in
+    let h = rw (read .before .past2 .given .1) at (read .before .before .before .letter .ensures) in
+    omega (arith, entry .pre .0, entry .pre .1, h .on)
 
 returns : tie.Need-returns
 returns c = rw (c .before .past .given .1) at (c .before .before .before .letter .ensures)
 
 returns-2 : tie.Need-returns-2
-returns-2 c = letter-read (rw (c .before .before .before .before .before .before .past2 .given .1) at (c .before .before .before .before .before .before .before .before .letter .ensures)) (c .position .ensures .0) (c .position .ensures .1 .0) (c .position .ensures .1 .1)
+returns-2 c = let read = c .before .before .before .before .before in
+    let h = rw (read .before .past2 .given .1) at (read .before .before .before .letter .ensures) in
+    letter-read h (c .position .ensures .0) (c .position .ensures .1 .0) (c .position .ensures .1 .1)
 
 pub single-spec : {M : Type 1} → statement M
 single-spec =
