@@ -11,16 +11,13 @@ use lib.Seq.{take-suc, drop-cons, getD-take, length-take-le}
 use Rattle.meaning.specs.Expression.{Re, cat, marks, size}
 use Rattle.meaning.specs.Grammar.{Bytes, no-byte, byte, Longest}
 use Rattle.meaning.specs.Tree.{closing, Some, some, Tree, t-eps, t-pos, t-cat, t-left, t-branch, t-none, t-once, t-skip, Begins}
+use Rattle.grammar.specs.ByteRow.{bytes-append}
 use Rattle.grammar.specs.Open.{Open, names, o-eps, o-pos, o-cat, o-alt, o-branch, o-star, o-plus, o-opt}
 use Rattle.positions.specs.Complete.{lift, join, complete}
 use Rattle.positions.specs.Positions.{Out, pass, at, Resume, r-pos, r-cat-in, r-cat-over, r-cat-right, r-left, r-right, r-branch-in, r-branch-out, r-star-in, r-star-out, r-plus-in, r-plus-out, r-opt-in, r-opt-out, At, a-pos, a-cat-left, a-cat-right, a-left, a-right, a-branch, a-star, a-plus, a-opt, Trace, done, step, link, Walk, walk}
 use Rattle.positions.specs.Sets.{firsts, follows, firsts-full, firsts-some, follows-full, follows-some}
 use Rattle.positions.specs.Sound.{walked}
 use Rattle.positions.specs.Tests.{reads, reads-full, reads-some}
-
-bytes-append : {s t : List ℕ} → Bytes s → Bytes t → Bytes (s ++ t)
-bytes-append no-byte k = k
-bytes-append (byte h i) k = byte h (bytes-append i k)
 
 -- some text of bytes with the property
 abbrev Some-text : (List ℕ → List ℕ → Type 0) → Type 0
