@@ -1,13 +1,12 @@
 -- What every accepted pattern has: all that the laws of trees and of rows ask for. Demand 2 in terms of the method.
 use mathlib.Core.Path.{_≡_}
-use mathlib.Core.Bool.{true, false, cond}
 use mathlib.Core.List.{List}
 use Prim.Native.Nat.{ℕ, _-_, _≤_, _<_}
 use native.Mathlib.Omega.{arith}
 use lib.ListN.{length}
 use Rattle.meaning.specs.Expression.{Re, marks}
 use Rattle.meaning.specs.Grammar.{Bytes}
-use Rattle.meaning.specs.Tree.{Tree, erase, First, Flag, NoTree}
+use Rattle.meaning.specs.Tree.{Tree, erase}
 use Rattle.meaning.specs.Limits.{room-for}
 use Rattle.meaning.specs.ReadPattern.{nodes, read-pattern}
 use Rattle.meaning.specs.Promise.{Accepted}
@@ -16,7 +15,6 @@ use Rattle.grammar.specs.Fair.{Fair, pattern-fair}
 use Rattle.grammar.specs.Open.{Open, pattern-open}
 use Rattle.positions.specs.Erased.{erases}
 use Rattle.positions.specs.Room.{row-length}
-use Rattle.positions.specs.Theorem.{found, firstRow, otherTree, no-tree, first-tree, first-flag}
 use Rattle.laws.specs.Holds.{Holds, read-pattern-holds}
 
 module _ {pat : List ℕ} {e : Re} (a : Accepted pat e) where
@@ -26,24 +24,11 @@ module _ {pat : List ℕ} {e : Re} (a : Accepted pat e) where
   pub accepted-open : Bytes pat → Open e
   accepted-open b = pattern-open b (a .denotes)
 
-  pub accepted-marks : marks e ≤ 127
-  accepted-marks = omega (arith, a .few-marks)
-
   pub accepted-nodes : nodes e < 1024
   accepted-nodes = omega (arith, pattern-small (a .denotes) .few-nodes, a .short)
 
   pub accepted-holds : Holds (read-pattern e .kind) (read-pattern e .arg) 0 0 (nodes e - 1) e
   accepted-holds = read-pattern-holds e (omega (arith, accepted-nodes))
-
-  -- no tree exactly where the method finds none; else its row is the first tree, and its bit the flag
-  pub accepted-none : (s : List ℕ) → found e s ≡ false → NoTree e s
-  accepted-none s h = no-tree e s h
-
-  pub accepted-first : (s : List ℕ) → found e s ≡ true → First e s (firstRow e s)
-  accepted-first s h = first-tree e accepted-fair accepted-marks s h
-
-  pub accepted-flag : (s : List ℕ) → found e s ≡ true → Flag e s (cond (otherTree e s) 1 0)
-  accepted-flag s h = first-flag e accepted-fair accepted-marks s h
 
   -- erasing the marks of a tree gives its text, and it has at most so many tokens
   pub accepted-erases : {s r : List ℕ} → Tree 0 e s r → erase r ≡ s
