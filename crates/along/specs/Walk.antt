@@ -8,7 +8,7 @@ use lib.Seq.{sets}
 use Rattle.meaning.specs.Expression.{Re, marks, size}
 use Rattle.meaning.specs.Limits.{text-limit, mark-limit}
 use Rattle.grammar.specs.Fair.{Fair}
-use Rattle.laws.specs.Holds.{Holds}
+use Rattle.grammar.specs.Holds.{Holds}
 use Rattle.positions.specs.Alive.{alive}
 use Rattle.positions.specs.Sets.{follows}
 use Rattle.positions.specs.Theorem.{found, firstRow, otherTree}

@@ -15,3 +15,6 @@ pub mod Examples
 pub mod Contract
 pub mod ClassContract
 pub mod ByteTests
+pub mod Holds
+pub mod Accepted
+pub mod ReadPromise

@@ -13,7 +13,7 @@ use Rattle.meaning.specs.Promise.{Read, refused, accepted, not-a-pattern, neste
 use Rattle.grammar.specs.Place.{Stops, stops-mistake}
 use Rattle.grammar.specs.ByteTests.{bytes-of}
 use Rattle.grammar.specs.Contract.{List-done, List-bad, read-done, read-bad, read-short}
-use Rattle.laws.specs.Holds.{nodes-some, kinds-length, args-length}
+use Rattle.grammar.specs.Holds.{nodes-some, kinds-length, args-length, length-words}
 use Rattle.pattern.specs.Answers.{number-of, value-of, parts-of, Refusal}
 use Rattle.pattern.specs.Stores.{bare-args, Stores, stores, Became, Lies, Numberable, Numbers}
 use Rattle.pattern.specs.Parts.{Read-to}
@@ -21,7 +21,7 @@ use Rattle.pattern.specs.declared.nodes.Cursor.{Cursor}
 use Rattle.pattern.specs.declared.Reading.{Reading}
 use Rattle.pattern.specs.declared.ReadPattern.{ReadPattern}
 use Rattle.pattern.specs.declared.Answer.{Answer}
-use Rattle.pattern.proofs.Rows.{sets-stands, length-bare-args, length-words}
+use Rattle.pattern.proofs.Rows.{sets-stands, length-bare-args}
 
 -- ---- rows of zeros, written from the front on
 

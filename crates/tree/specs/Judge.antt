@@ -10,7 +10,7 @@ use Rattle.meaning.specs.Promise.{cleared}
 use Rattle.meaning.specs.ReadPattern.{nodes}
 use Rattle.grammar.specs.Fair.{Fair}
 use Rattle.grammar.specs.Open.{Open}
-use Rattle.laws.specs.Holds.{Holds}
+use Rattle.grammar.specs.Holds.{Holds}
 use Rattle.positions.specs.Alive.{alive}
 use Rattle.positions.specs.Tests.{reads}
 use Rattle.positions.specs.Theorem.{firstRow, otherTree}

@@ -4,7 +4,7 @@ use mathlib.Core.List.{List}
 use Prim.Native.Nat.{ℕ, suc, _<_, _≤_}
 use Rattle.meaning.specs.Expression.{Re, size}
 use Rattle.meaning.specs.ReadPattern.{nodes}
-use Rattle.laws.specs.Holds.{Holds}
+use Rattle.grammar.specs.Holds.{Holds}
 use Rattle.positions.specs.Tests as tests
 use Rattle.positions.specs.Sets.{follows}
 use Rattle.sets.specs.declared.set.Set.{Set}
