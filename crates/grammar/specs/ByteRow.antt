@@ -1,7 +1,8 @@
 -- Rows of bytes: their parts, one behind another, one byte again and again.
 use mathlib.Core.List.{List, [], _∷_, _++_}
 use Prim.Native.Nat.{ℕ, zero, suc, _<_}
-use lib.ListN.{take, drop, take-append-drop, replicate}
+use native.Mathlib.Omega.{arith}
+use lib.ListN.{length, getD, take, drop, take-append-drop, replicate}
 use Rattle.meaning.specs.Grammar.{Char, bare, quoted, Bytes, no-byte, byte}
 
 pub bytes-left : (s t : List ℕ) → Bytes (s ++ t) → Bytes s
@@ -29,3 +30,8 @@ bytes-replicate (suc n) h = byte h (bytes-replicate n h)
 pub char-byte : {s : List ℕ} {x : ℕ} → Char s x → Bytes s → x < 256
 char-byte (bare p) (byte h r) = h
 char-byte quoted (byte h (byte g r)) = g
+
+-- each of its elements is a byte
+pub bytes-of : (s : List ℕ) → ((i : ℕ) → i < length s → getD s i 0 < 256) → Bytes s
+bytes-of [] h = no-byte
+bytes-of (b ∷ s) h = byte (h 0 (omega arith)) (bytes-of s (λ i l. h (suc i) (omega arith)))

@@ -1,4 +1,5 @@
--- The laws of patterns: a machine that reads them and what follows from it, the numbering of marks, and what a reader of patterns says of itself.
+-- The laws of patterns: a machine that reads them and what follows from it, the numbering of marks, how rows hold an expression, what every
+-- accepted pattern has, and what a reader of patterns says of itself and promises.
 pub mod Machine
 pub mod Reads
 pub mod Sound

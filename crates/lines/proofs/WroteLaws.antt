@@ -5,8 +5,8 @@ use Prim.Native.Nat.{ℕ, _+_, _≤_, _<_}
 use native.Mathlib.Numerals.{add-one}
 use native.Mathlib.Omega.{arith}
 use lib.ListN.{length, take, drop, getD, length-append}
-use lib.Seq.{length-sets, sets-eq, take-suc, take-all}
-use Rattle.bits.proofs.Writing.{sets-then}
+use lib.Seq.{length-sets, take-suc, take-all}
+use Rattle.bits.proofs.Writing.{sets-then, sets-front}
 use Rattle.lines.specs.Wrote.{Wrote}
 
 pub wrote-none : (t : List ℕ) (at : ℕ) → Wrote t at [] t at
@@ -33,7 +33,4 @@ wrote-kept {t} {t′} {at} {r} {l} a = rw (a .wrote) (length-sets t at l)
 
 -- put from the front into a row that holds it
 pub wrote-whole : {t t′ : List ℕ} {r : ℕ} {l : List ℕ} → Wrote t 0 l t′ r → length l ≤ length t → t′ ≡ l ++ drop (length l) t
-wrote-whole {t} {t′} {r} {l} a h =
-    let h′ : 0 + length l ≤ length t = omega arith in
-    let z : 0 + length l ≡ length l = omega arith in
-    a .wrote ∙ (rw z at (sets-eq l t 0 h′))
+wrote-whole {t} {t′} {r} {l} a h = a .wrote ∙ sets-front t l h

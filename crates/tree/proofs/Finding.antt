@@ -14,7 +14,7 @@ use Rattle.meaning.specs.Promise.{cleared}
 use Rattle.passes.specs.Masks.{Masked}
 use Rattle.passes.specs.Ways.{Backed}
 use Rattle.passes.proofs.Living.{living-alive}
-use Rattle.grammar.specs.ByteTests.{bytes-of}
+use Rattle.grammar.specs.ByteRow.{bytes-of}
 use Rattle.passes.proofs.Marked.{masked-classes}
 use Rattle.sets.proofs.SetLaws.{zeros-empty}
 use Rattle.passes.proofs.Rests.{backed-past}

@@ -1,18 +1,18 @@
 -- From exact tables and filled cells to the answer. Assumes nothing.
 use mathlib.Core.Path.{_≡_, sym, ap, ap₂, _∙_}
 use mathlib.Core.Bool.{Bool, true, false, _&&_, _||_, cond}
-use mathlib.Core.List.{List, _++_}
-use Prim.Native.Nat.{ℕ, _+_, _≤_, _<_}
-use native.Mathlib.Nat.{zero-add}
+use mathlib.Core.List.{List}
+use Prim.Native.Nat.{ℕ, _≤_, _<_}
 use native.Mathlib.Omega.{arith}
 use lib.Dec.{eqb}
-use lib.ListN.{length, getD, drop}
-use lib.Seq.{sets, sets-eq}
+use lib.ListN.{length, getD}
+use lib.Seq.{sets}
 use borrow.Author.Tests.{le-leb, lt-leb}
 use Rattle.meaning.specs.Expression.{Re, marks}
 use Rattle.meaning.specs.Limits.{room-for}
 use Rattle.meaning.specs.Promise.{written}
 use Rattle.meaning.specs.Tree.{First, Flag}
+use Rattle.bits.proofs.Writing.{sets-front}
 use Rattle.positions.specs.Alive.{alive}
 use Rattle.positions.specs.Room.{row-length}
 use Rattle.positions.specs.Sets.{leads-same}
@@ -34,9 +34,7 @@ use Rattle.along.proofs.Advance.{ended-zero}
 
 -- a room that holds the row, and one that does not
 pub kept-whole : (row t : List ℕ) → length row ≤ length t → sets t 0 row ≡ kept row t
-kept-whole row t h =
-    let z : 0 + length row ≡ length row = zero-add (length row) in
-    sets-eq row t 0 (omega arith) ∙ ap (λ (n : ℕ). row ++ drop n t) z ∙ ap (λ (b : Bool). cond b (written row t) t) (sym (le-leb (length row) (length t) h))
+kept-whole row t h = sets-front t row h ∙ ap (λ (b : Bool). cond b (written row t) t) (sym (le-leb (length row) (length t) h))
 
 pub kept-none : (row t : List ℕ) → length t < length row → t ≡ kept row t
 kept-none row t h = ap (λ (b : Bool). cond b (written row t) t) (sym (lt-leb (length row) (length t) h))
