@@ -1,4 +1,4 @@
--- Rows written one behind the other, and how long the rows of an expression are. Assumes nothing.
+-- Rows written one behind the other, a row that stands in another, and how long the row of numbers without marks is. Assumes nothing.
 use mathlib.Core.Path.{_≡_, refl, sym, _∙_, ap, ap₂}
 use mathlib.Core.List.{List, [], _∷_, _++_}
 use Prim.Native.Nat.{ℕ, suc, _+_, _≤_}
@@ -41,7 +41,7 @@ sets-same {t} {u} (v ∷ l) h =
 pub sets-stands : (t : List ℕ) (u : ℕ) (l : List ℕ) → u + length l ≤ length t → Stands l (sets t u l) u
 sets-stands t u l h = record { within = simp length-sets h; here = λ j g. sets-inside t u l j g (omega arith) }
 
--- ---- how long the rows of an expression are
+-- ---- how long the row of numbers without marks is
 
 pub length-bare-args : (k p : ℕ) (e : Re) → length (bare-args k p e) ≡ nodes e
 unfolding bare-args nodes
