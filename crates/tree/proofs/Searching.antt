@@ -35,15 +35,17 @@ module _ {pat : List ℕ} {P : ReadPattern} (bytes : (i : ℕ) → Fits w8 (getD
       let h = H .holding in
       let some = nodes-some (H .denotes) in
       record {
-        holds = h .holds;
+        rooted = record {
+          holds = h .holds;
+          within = omega (arith, h .few-nodes);
+          fair = accepted-fair (H .accepted);
+          can-read = accepted-open (H .accepted) (bytes-fit pat bytes);
+          few-marks = H .accepted .few-marks;
+          few-positions = H .accepted .few-positions;
+          marks-are = h .marks-are;
+        };
         all = omega (arith, h .nodes-are);
-        within = omega (arith, h .few-nodes);
-        fair = accepted-fair (H .accepted);
-        can-read = accepted-open (H .accepted) (bytes-fit pat bytes);
-        few-marks = H .accepted .few-marks;
-        few-positions = H .accepted .few-positions;
         positions-are = h .positions-are;
-        marks-are = h .marks-are;
         classes = reads-classed (H .denotes) (h .classes) (h .positions-are);
       }
 
