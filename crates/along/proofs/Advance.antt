@@ -25,7 +25,8 @@ use Rattle.along.specs.Along.{Along, Came}
 use Rattle.along.specs.Glide.{Glided, Glides, Guided, stood}
 use Rattle.along.specs.Links.{Kept, Linked, Went}
 use Rattle.along.specs.Rows.{Beyond}
-use Rattle.along.specs.Walk.{Charted, Stands, Walkable, Writes, other-of}
+use Rattle.walks.specs.Root.{Charted}
+use Rattle.along.specs.Walk.{Stands, Walkable, Writes, other-of}
 use Rattle.along.proofs.Along.{along-start, along-more, along-stands, along-few, along-end}
 use Rattle.along.proofs.Coming.{came-at, came-then, along-room}
 use Rattle.along.proofs.Linking.{kept-on}
@@ -142,4 +143,4 @@ module _ {e : Re} {ks gs txt cells : List ℕ} {root : ℕ} (W : Walkable e ks g
   walk-end {t₀ = t₀} {t = t} {s₀} {s} B C z l o =
       let b : Beyond t₀ t (cursor s) = beyond-less _ (beyond-then _ B (C .beyond) (omega (arith, C .later))) (omega arith) in
       let x = along-end e (W .fair) few txt {t₀ = t₀} (C .along) z (λ c w k. rw (ap cursor k) at b) in
-      record { row = x .0; long = l ∙ ap cursor (x .1); other = o ∙ ap other-of (x .1) }
+      record { row = x .0; measures = record { long = l ∙ ap cursor (x .1); other = o ∙ ap other-of (x .1) } }

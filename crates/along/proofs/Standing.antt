@@ -9,7 +9,7 @@ use borrow.Author.Tests.{ltb-true, ltb-false}
 use lib.Dec.{ltb}
 use lib.ListN.{length, getD, length-append, List·getD-append}
 use lib.Seq.{sets, length-sets, getD-append-add, ext-getD}
-use Rattle.laws.specs.Writing.{sets-before, sets-inside, sets-behind}
+use Rattle.bits.proofs.Writing.{sets-before, sets-inside, sets-behind}
 use Rattle.along.specs.Rows.{Shows, Below, Beyond}
 
 -- ---- a row that is written

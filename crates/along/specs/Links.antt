@@ -7,7 +7,7 @@ use Prim.Native.Nat.{ℕ, _+_, _*_, _-_, _≤_, _<_}
 use lib.ListN.{length, getD, set}
 use Rattle.meaning.specs.Expression.{Re, marks, size}
 use Rattle.grammar.specs.Fair.{Fair}
-use Rattle.laws.specs.Holds.{Holds}
+use Rattle.grammar.specs.Holds.{Holds}
 use Rattle.positions.specs.Positions.{at}
 use Rattle.positions.specs.Runs.{Run, rowOf, outOf, otherOf, resumeRun}
 use Rattle.sets.specs.declared.set.Set.{Set}

@@ -8,27 +8,17 @@ use lib.Seq.{sets}
 use Rattle.meaning.specs.Expression.{Re, marks, size}
 use Rattle.meaning.specs.Limits.{text-limit, mark-limit}
 use Rattle.grammar.specs.Fair.{Fair}
-use Rattle.laws.specs.Holds.{Holds}
+use Rattle.grammar.specs.Holds.{Holds}
 use Rattle.positions.specs.Alive.{alive}
-use Rattle.positions.specs.Sets.{follows}
 use Rattle.positions.specs.Theorem.{found, firstRow, otherTree}
 use Rattle.sets.specs.Members.{has, limit, row, rows}
 use Rattle.walks.specs.declared.step.Step.{Step}
 use Rattle.walks.specs.declared.step.Step.the-variants.{Passed, Stopped}
-use Rattle.walks.specs.Enter.{Scanned}
-use Rattle.walks.specs.Tables.{Known, number, EndAt}
 use Rattle.along.specs.declared.glide.Stand.{Stand}
 use Rattle.along.specs.declared.walk.Walked.{Walked}
 use Rattle.along.specs.Along.{Goes}
 use Rattle.along.specs.Glide.{stood}
 use Rattle.along.specs.Links.{Linked}
-
--- the tables of the nodes are right up to the root, and that of the positions says which may follow each
-pub record Charted (ks gs ns fs us ts : List ℕ) (root : ℕ) : Type 0 where
-  pub scanned : Scanned ks gs ns fs root
-  pub upto : Known number (EndAt ks gs) us root
-  pub long : rows ts ≡ limit
-  pub follow : (e : Re) → Holds ks gs 0 0 root e → (j : ℕ) → j < size e → (q : ℕ) → has (row ts j) q ≡ follows 0 e j q
 
 -- the root holds e, and the cells hold the positions that are alive at each place of the text, which has a tree
 pub record Walkable (e : Re) (ks gs : List ℕ) (root : ℕ) (text cells : List ℕ) : Type 0 where
@@ -64,11 +54,15 @@ pub record Advanced (ks gs : List ℕ) (root : ℕ) (text cells keys keys′ lin
   pub same-links : length links′ ≡ length links
   pub goes : (e : Re) → Walkable e ks gs root text cells → Goes e text keys keys′ links links′ t t′ (stood s) r (s .read) (s .read + 1)
 
--- the row of the first tree is written as far as it fits; its length, and whether there is another tree
-pub record Writes (e : Re) (text t t′ : List ℕ) (r : Walked) : Type 0 where
-  pub row : t′ ≡ sets t 0 (firstRow e text)
+-- the length of the first tree's row, and whether there is another tree
+pub record Measures (e : Re) (text : List ℕ) (r : Walked) : Type 0 where
   pub long : r .length ≡ length (firstRow e text)
   pub other : r .other ≡ otherTree e text
+
+-- the same, and the row is written as far as it fits
+pub record Writes (e : Re) (text t t′ : List ℕ) (r : Walked) : Type 0 where
+  pub row : t′ ≡ sets t 0 (firstRow e text)
+  pub measures : Measures e text r
 
 -- whether another way was open
 abbrev pub other-of : Step → Bool

@@ -6,7 +6,7 @@ ghost use Rattle.sets.specs.Members.{limit, rows};
 ghost use Rattle.walks.specs.Steps.{cursor};
 ghost use Rattle.walks.specs.Tables.{flag};
 ghost use Rattle.along.specs.Links.{Keeps, Linked, PlaceOf, Went};
-ghost use Rattle.along.specs.Walk.{Charted};
+ghost use Rattle.walks.specs.Root.{Charted};
 use sets::set::Set;
 use walks::resume::resume;
 use walks::step::Step;

@@ -2,7 +2,8 @@
 ghost use mathlib.Core.Path.{_≡_};
 ghost use Rattle.meaning.specs.Expression.{Re};
 ghost use Rattle.walks.specs.Steps.{cursor};
-ghost use Rattle.along.specs.Walk.{Advanced, Advances, Charted, Stands, Walkable, Walks, Writes, other-of};
+ghost use Rattle.walks.specs.Root.{Charted};
+ghost use Rattle.along.specs.Walk.{Advanced, Advances, Stands, Walkable, Walks, Writes, other-of};
 use crate::glide::Stand;
 use crate::glide::glide;
 use crate::glide::letter;

@@ -7,15 +7,15 @@ use native.Mathlib.Omega.{arith}
 use lib.Dec.{eqb, ltb}
 use lib.Bits.{bitAnd, bitOr}
 use lib.Pow.{pow-lt, pow-pos}
-use lib.Count.{ones, trailingZeros}
+use lib.Count.{trailingZeros}
 use borrow.Author.Tests.{eqb-true, eq-eqb, ne-eqb, ltb-true, lt-ltb}
 use Rattle.bits.specs.Bit.{digit, bit}
 use Rattle.meaning.specs.ReadPattern.{binary}
-use Rattle.bits.specs.Tally.{tally, any}
+use Rattle.bits.specs.Tally.{any}
 use Rattle.bits.specs.Truth.{both}
-use Rattle.bits.proofs.Tallies.{Agree, tally-ext, any-none, any-some}
+use Rattle.bits.proofs.Tallies.{Agree, any-none, any-some}
 use Rattle.bits.proofs.Digit.{digit-or, digit-and, digit-none, digit-one, digit-not, trailing-below, trailing-at, digit-drop}
-use Rattle.bits.proofs.Numbers.{number, digit-binary, ones-tally}
+use Rattle.bits.proofs.Numbers.{number, digit-binary}
 
 -- ---- below the width, and past it
 
@@ -95,7 +95,7 @@ bit-with w x p q l = bit-or w x (1 * 2 ^ p % 2 ^ w) q ∙ ap (λ (b : Bool). bit
 pub bit-without : (w x p q : ℕ) → p < w → bit w (bitAnd x ((2 ^ w - 1) - 1 * 2 ^ p % 2 ^ w)) q ≡ (bit w x q && not (eqb q p))
 bit-without w x p q l = bit-minus w x (1 * 2 ^ p % 2 ^ w) q (mod-lt _ (pow-pos w)) ∙ ap (λ (b : Bool). bit w x q && not b) (bit-shl w p q l)
 
--- ---- `trailing_zeros`, `x & (x - 1)` and `count_ones`
+-- ---- `trailing_zeros` and `x & (x - 1)`
 
 pub bit-before : (w x q : ℕ) → q < trailingZeros w x → bit w x q ≡ false
 unfolding bit
@@ -107,6 +107,3 @@ bit-first w x l = bit-within w x (trailingZeros w x) l ∙ trailing-at w x l
 pub bit-drop : (w x q : ℕ) → 0 < x → x < 2 ^ w → bit w (bitAnd x (x - 1)) q ≡ (bit w x q && not (eqb q (trailingZeros w x)))
 unfolding bit
 bit-drop w x q h l = ap (λ (b : Bool). ltb q w && b) (digit-drop w x q h l) ∙ sym (and-assoc (ltb q w) (digit x q) (not (eqb q (trailingZeros w x))))
-
-pub bit-count : (w x : ℕ) → x < 2 ^ w → ones x ≡ tally (bit w x) w
-bit-count w x h = ones-tally w x h ∙ tally-ext (digit x) (bit w x) w (λ p l. sym (bit-within w x p l))

@@ -1,18 +1,17 @@
--- A number of k digits: it is the number that has its digits, and has as many ones as digits that are set. Assumes nothing.
-use mathlib.Core.Path.{_≡_, refl, sym, ap, ap₂, _∙_}
+-- A number of k digits is the number that has its digits. Assumes nothing.
+use mathlib.Core.Path.{_≡_, refl, sym, ap, _∙_}
 use mathlib.Core.Bool.{Bool, true, false}
 use Prim.Native.Nat.{ℕ, zero, suc, _+_, _*_, _/_, _%_, _^_, _<_}
 use native.Mathlib.Nat.{not-suc-le-zero, le-of-suc-le-suc}
 use native.Mathlib.Omega.{arith}
 use lib.Dec.{eqb}
 use lib.Arith.{lt-one}
-use lib.Count.{ones, ones-step}
 use borrow.Author.Tests.{eq-eqb, ne-eqb}
 use Rattle.bits.specs.Bit.{digit}
 use Rattle.meaning.specs.ReadPattern.{binary}
-use Rattle.bits.specs.Tally.{one, tally}
+use Rattle.bits.specs.Tally.{one}
 use Rattle.bits.proofs.Digit.{parity, digit-low, digit-next, half-lt}
-use Rattle.bits.proofs.Tallies.{Agree, agree-first, agree-rest, tally-ext}
+use Rattle.bits.proofs.Tallies.{Agree, agree-first, agree-rest}
 
 lowest : (x : ℕ) → x % 2 ≡ one (digit x 0)
 lowest x = parity (λ d. d ≡ one (eqb d 1)) refl refl x ∙ ap one (sym (digit-low x))
@@ -40,10 +39,3 @@ digit-binary (suc k) f (suc p) l =
     rest : (b : Bool) (d : ℕ) → (one b + 2 * d) / 2 ≡ d
     rest true d = omega arith
     rest false d = omega arith
-
-pub ones-tally : (k x : ℕ) → x < 2 ^ k → ones x ≡ tally (digit x) k
-unfolding ones tally
-ones-tally zero x h = ap ones (lt-one h)
-ones-tally (suc k) x h =
-    ones-step x ∙ ap₂ (λ (a b : ℕ). a + b) (lowest x)
-    (ones-tally k (x / 2) (half-lt k x h) ∙ tally-ext (digit (x / 2)) (λ p. digit x (suc p)) k (λ p _. sym (digit-next x p)))

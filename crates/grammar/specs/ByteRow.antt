@@ -1,7 +1,8 @@
--- Parts of a row of bytes are rows of bytes.
+-- Rows of bytes: their parts, one behind another, one byte again and again.
 use mathlib.Core.List.{List, [], _∷_, _++_}
-use Prim.Native.Nat.{ℕ, _<_}
-use lib.ListN.{take, drop, take-append-drop}
+use Prim.Native.Nat.{ℕ, zero, suc, _<_}
+use native.Mathlib.Omega.{arith}
+use lib.ListN.{length, getD, take, drop, take-append-drop, replicate}
 use Rattle.meaning.specs.Grammar.{Char, bare, quoted, Bytes, no-byte, byte}
 
 pub bytes-left : (s t : List ℕ) → Bytes (s ++ t) → Bytes s
@@ -18,6 +19,19 @@ bytes-tail (byte h r) = r
 pub bytes-take : (p : ℕ) (s : List ℕ) → Bytes s → Bytes (take p s)
 bytes-take p s h = bytes-left (take p s) (drop p s) (rw (take-append-drop p s) h)
 
+pub bytes-append : {s t : List ℕ} → Bytes s → Bytes t → Bytes (s ++ t)
+bytes-append no-byte k = k
+bytes-append (byte h i) k = byte h (bytes-append i k)
+
+pub bytes-replicate : (n : ℕ) {b : ℕ} → b < 256 → Bytes (replicate n b)
+bytes-replicate zero h = no-byte
+bytes-replicate (suc n) h = byte h (bytes-replicate n h)
+
 pub char-byte : {s : List ℕ} {x : ℕ} → Char s x → Bytes s → x < 256
 char-byte (bare p) (byte h r) = h
 char-byte quoted (byte h (byte g r)) = g
+
+-- each of its elements is a byte
+pub bytes-of : (s : List ℕ) → ((i : ℕ) → i < length s → getD s i 0 < 256) → Bytes s
+bytes-of [] h = no-byte
+bytes-of (b ∷ s) h = byte (h 0 (omega arith)) (bytes-of s (λ i l. h (suc i) (omega arith)))

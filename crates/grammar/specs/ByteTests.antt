@@ -1,13 +1,10 @@
 -- From what a reader's tests say of a byte, one equation or inequation at a time, to what the grammar says of it.
 use mathlib.Core.Path.{_≡_, refl}
 use mathlib.Core.Bool.{false}
-use mathlib.Core.List.{List, [], _∷_}
-use Prim.Native.Nat.{ℕ, suc, _<_}
-use native.Mathlib.Omega.{arith}
+use Prim.Native.Nat.{ℕ}
 use borrow.Author.Tests.{ne-eqb}
-use lib.ListN.{length, getD}
 use Rattle.meaning.specs.Expression.{Re}
-use Rattle.meaning.specs.Grammar.{one-of, signs, class-signs, Bytes, no-byte, byte}
+use Rattle.meaning.specs.Grammar.{one-of, signs, class-signs}
 use Rattle.grammar.specs.Machine.{Sign, is-star, is-plus, is-opt}
 use Rattle.grammar.specs.Contract.{Stray}
 use Rattle.grammar.specs.ClassContract.{Class-stray}
@@ -35,7 +32,3 @@ pub no-sign : {b : ℕ} → (b ≡ 42 → ⊥) → (b ≡ 43 → ⊥) → (b ≡
 no-sign p q r f is-star = p refl
 no-sign p q r f is-plus = q refl
 no-sign p q r f is-opt = r refl
-
-pub bytes-of : (s : List ℕ) → ((i : ℕ) → i < length s → getD s i 0 < 256) → Bytes s
-bytes-of [] h = no-byte
-bytes-of (b ∷ s) h = byte (h 0 (omega arith)) (bytes-of s (λ i l. h (suc i) (omega arith)))

@@ -1,4 +1,5 @@
--- The laws of patterns: a machine that reads them and what follows from it, the numbering of marks, and what a reader of patterns says of itself.
+-- The laws of patterns: a machine that reads them and what follows from it, the numbering of marks, how rows hold an expression, what every
+-- accepted pattern has, and what a reader of patterns says of itself and promises.
 pub mod Machine
 pub mod Reads
 pub mod Sound
@@ -15,3 +16,6 @@ pub mod Examples
 pub mod Contract
 pub mod ClassContract
 pub mod ByteTests
+pub mod Holds
+pub mod Accepted
+pub mod ReadPromise

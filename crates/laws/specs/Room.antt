@@ -7,13 +7,14 @@ use mathlib.Core.Logic.{inl}
 use Prim.Native.Nat.{ℕ, zero, suc, _+_, _-_, _*_, _≤_, _<_, max}
 use native.Mathlib.Omega.{arith}
 use native.Mathlib.Nat.{mul-suc, mul-zero, mul-one}
-use lib.Dec.{leb, leb→le}
+use lib.Dec.{leb, leb→le, lit<}
 use lib.ListN.{length, length-append, replicate, length-replicate}
 use Rattle.meaning.specs.Expression.{Re, eps, pos, star, plus, opt, marks, size}
-use Rattle.meaning.specs.Grammar.{only, Is, an-atom, an-item, literal, unit, group, starred, plussed, optional, item-one, lone}
+use Rattle.meaning.specs.Grammar.{Bytes, no-byte, byte, only, Is, an-atom, an-item, literal, unit, group, starred, plussed, optional, item-one, lone}
 use Rattle.meaning.specs.Tree.{letter, turn, Some, some, Tree, t-eps, t-pos, t-none, t-turn, t-once, t-more, t-skip, t-take, First}
 use Rattle.meaning.specs.Limits.{text-limit, mark-limit, room-for}
 use Rattle.meaning.specs.Promise.{Accepted}
+use Rattle.grammar.specs.ByteRow.{bytes-append, bytes-replicate}
 
 -- an accepted pattern with M marks, and a text of n bytes whose first tree is as long as any may be
 pub record Reached (M n : ℕ) : Type 0 where
@@ -21,6 +22,8 @@ pub record Reached (M n : ℕ) : Type 0 where
   pub text : List ℕ
   pub denotes : Re
   pub row : List ℕ
+  pub pattern-bytes : Bytes pattern
+  pub text-bytes : Bytes text
   pub accepted : Accepted pattern denotes
   pub all-marks : marks denotes ≡ M
   pub of-length : length text ≡ n
@@ -44,29 +47,34 @@ wrapped-length : (sign : ℕ) (s : List ℕ) (k : ℕ) → length (wrapped sign 
 wrapped-length sign s zero = omega arith
 wrapped-length sign s (suc k) = simp length-append (omega (arith, wrapped-length sign s k))
 
+wrapped-bytes : {sign : ℕ} {s : List ℕ} → sign < 256 → Bytes s → (k : ℕ) → Bytes (wrapped sign s k)
+wrapped-bytes h b zero = b
+wrapped-bytes h b (suc k) = byte (lit< tt) (bytes-append (bytes-append (wrapped-bytes h b k) (byte h no-byte)) (byte (lit< tt) no-byte))
+
 nested-length : (m k : ℕ) (r : List ℕ) → length (nested m k r) ≡ length r + 2 * k
 nested-length m zero r = omega arith
 nested-length m (suc k) r = simp length-append (omega (arith, nested-length (suc m) k r))
 
 -- a sign of repetition: its byte, what it makes of an expression, and that it adds one mark and no position
 record Sign : Type 0 where
-  pub byte : ℕ
+  pub sign : ℕ
+  pub is-byte : sign < 256
   pub makes : Re → Re
-  pub signed : (s : List ℕ) (e : Re) (d : ℕ) → Is an-atom s e d → Is an-item (s ++ byte ∷ []) (makes e) d
+  pub signed : (s : List ℕ) (e : Re) (d : ℕ) → Is an-atom s e d → Is an-item (s ++ sign ∷ []) (makes e) d
   pub mark : (e : Re) → marks (makes e) ≡ suc (marks e)
   pub place : (e : Re) → size (makes e) ≡ size e
 
 the-star : Sign
 unfolding marks size
-the-star = record { byte = 42; makes = star; signed = λ s e d a. starred a; mark = λ e. refl; place = λ e. refl }
+the-star = record { sign = 42; is-byte = lit< tt; makes = star; signed = λ s e d a. starred a; mark = λ e. refl; place = λ e. refl }
 
 the-plus : Sign
 unfolding marks size
-the-plus = record { byte = 43; makes = plus; signed = λ s e d a. plussed a; mark = λ e. refl; place = λ e. refl }
+the-plus = record { sign = 43; is-byte = lit< tt; makes = plus; signed = λ s e d a. plussed a; mark = λ e. refl; place = λ e. refl }
 
 the-opt : Sign
 unfolding marks size
-the-opt = record { byte = 63; makes = opt; signed = λ s e d a. optional a; mark = λ e. refl; place = λ e. refl }
+the-opt = record { sign = 63; is-byte = lit< tt; makes = opt; signed = λ s e d a. optional a; mark = λ e. refl; place = λ e. refl }
 
 -- d and k more
 abbrev deeper : ℕ → ℕ → ℕ
@@ -78,7 +86,7 @@ deeper-sum d zero = omega arith
 deeper-sum d (suc k) = omega (arith, deeper-sum d k)
 
 module _ (σ τ : Sign) (s : List ℕ) (e : Re) (d : ℕ) (a : Is an-atom s e d) where
-  in-groups : (k : ℕ) → Is an-atom (wrapped (σ .byte) s k) (held (σ .makes) e k) (deeper d k)
+  in-groups : (k : ℕ) → Is an-atom (wrapped (σ .sign) s k) (held (σ .makes) e k) (deeper d k)
   in-groups zero = a
   in-groups (suc k) = group (lone (item-one (σ .signed _ _ _ (in-groups k))))
 
@@ -91,15 +99,18 @@ module _ (σ τ : Sign) (s : List ℕ) (e : Re) (d : ℕ) (a : Is an-atom s e d)
   held-size (suc k) = σ .place (held (σ .makes) e k) ∙ held-size k
 
   -- the whole pattern: k groups with the one sign, and the other sign behind
-  groups-accepted : (k : ℕ) → k < mark-limit → length s ≤ 2 → d ≤ 1 → marks e ≡ 0 → size e ≤ 1 → Accepted (wrapped (σ .byte) s k ++ τ .byte ∷ []) (τ .makes (held (σ .makes) e k))
+  groups-accepted : (k : ℕ) → k < mark-limit → length s ≤ 2 → d ≤ 1 → marks e ≡ 0 → size e ≤ 1 → Accepted (wrapped (σ .sign) s k ++ τ .sign ∷ []) (τ .makes (held (σ .makes) e k))
   groups-accepted k h l g no-marks places = record {
-    short = simp length-append (omega (arith, wrapped-length (σ .byte) s k));
+    short = simp length-append (omega (arith, wrapped-length (σ .sign) s k));
     depth = deeper d k;
     denotes = lone (item-one (τ .signed _ _ _ (in-groups k)));
     nesting = omega (arith, deeper-sum d k);
     few-positions = omega (arith, τ .place (held (σ .makes) e k), held-size k);
     few-marks = omega (arith, τ .mark (held (σ .makes) e k), held-marks k);
   }
+
+  groups-bytes : (k : ℕ) → Bytes s → Bytes (wrapped (σ .sign) s k ++ τ .sign ∷ [])
+  groups-bytes k b = bytes-append (wrapped-bytes (σ .is-byte) b k) (byte (τ .is-byte) no-byte)
 
   groups-marks : (k : ℕ) → marks e ≡ 0 → marks (τ .makes (held (σ .makes) e k)) ≡ suc k
   groups-marks k h = omega (arith, τ .mark (held (σ .makes) e k), held-marks k)
@@ -169,6 +180,8 @@ reached (suc k) zero h l g = record {
   text = [];
   denotes = held plus eps (suc k);
   row = nested 0 (suc k) [];
+  pattern-bytes = groups-bytes the-plus the-plus _ eps 1 unit k (byte (lit< tt) (byte (lit< tt) no-byte));
+  text-bytes = no-byte;
   accepted = groups-accepted the-plus the-plus _ eps 1 unit k (omega arith) (omega arith) (omega arith) refl (omega arith);
   all-marks = groups-marks the-plus the-plus _ eps 1 unit k refl;
   of-length = refl;
@@ -180,6 +193,8 @@ reached (suc k) (suc n) h l g = record {
   text = replicate (suc n) 97;
   denotes = star (held opt a k);
   row = many k (suc n);
+  pattern-bytes = groups-bytes the-opt the-star _ a 0 (literal refl) k (byte (lit< tt) no-byte);
+  text-bytes = bytes-replicate (suc n) (lit< tt);
   accepted = groups-accepted the-opt the-star _ a 0 (literal refl) k (omega arith) (omega arith) (omega arith) refl (omega arith);
   all-marks = groups-marks the-opt the-star _ a 0 (literal refl) k refl;
   of-length = length-replicate (suc n) 97;

@@ -11,7 +11,8 @@ use borrow.Author.Tests.{leb-true, leb-false}
 use Rattle.meaning.specs.Expression.{Re}
 use Rattle.meaning.specs.Promise.{Answered, Judged}
 use Rattle.meaning.specs.Desk.{Desk, desk-lines, desk-cells, desk-tokens, input-limit, pattern-in, text-in}
-use Rattle.laws.specs.Promises.{desk-one, refused-not-0}
+use Rattle.grammar.specs.ReadPromise.{refused-range}
+use Rattle.laws.specs.Promises.{desk-one}
 use Rattle.lines.specs.Wrote.{Wrote, longest}
 use Rattle.lines.specs.Parts.{Split}
 use Rattle.lines.specs.Desked.{Answer, Desked}
@@ -28,7 +29,7 @@ pub answered-room : {pat text cells room cells′ room′ : List ℕ} {n v f : �
 answered-room (Answered.long-pattern h) z = absurd (omega arith)
 answered-room (Answered.long-text h h′) z = absurd (omega arith)
 answered-room (Answered.few-cells h h′ h″) z = absurd (omega arith)
-answered-room (Answered.refused ready why) z = absurd (refused-not-0 why z)
+answered-room (Answered.refused ready why) z = absurd (omega (arith, refused-range why))
 answered-room (Answered.judged ready ok j) z = judged-room j z
 
 -- ---- the lines of an answer

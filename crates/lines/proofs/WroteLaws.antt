@@ -1,17 +1,13 @@
 -- How runs of bytes that are put into a row follow one another. Assumes nothing.
 use mathlib.Core.Path.{_≡_, refl, _∙_}
 use mathlib.Core.List.{List, [], _∷_, _++_}
-use Prim.Native.Nat.{ℕ, suc, _+_, _≤_, _<_}
-use native.Mathlib.Nat.{add-suc, suc-add, add-zero}
+use Prim.Native.Nat.{ℕ, _+_, _≤_, _<_}
 use native.Mathlib.Numerals.{add-one}
 use native.Mathlib.Omega.{arith}
-use lib.ListN.{length, take, drop, getD, set, length-append}
-use lib.Seq.{sets, length-sets, sets-eq, take-suc, take-all}
+use lib.ListN.{length, take, drop, getD, length-append}
+use lib.Seq.{length-sets, take-suc, take-all}
+use Rattle.bits.proofs.Writing.{sets-then, sets-front}
 use Rattle.lines.specs.Wrote.{Wrote}
-
-sets-more : (t : List ℕ) (at : ℕ) (l m : List ℕ) → sets (sets t at l) (at + length l) m ≡ sets t at (l ++ m)
-sets-more t at [] m = rw add-zero
-sets-more t at (a ∷ l) m = rw (add-suc, ← suc-add) (sets-more (set t at a) (suc at) l m)
 
 pub wrote-none : (t : List ℕ) (at : ℕ) → Wrote t at [] t at
 wrote-none t at = record { wrote = refl; moved = omega arith }
@@ -19,7 +15,7 @@ wrote-none t at = record { wrote = refl; moved = omega arith }
 -- one run behind another
 pub wrote-then : {t t₁ t₂ : List ℕ} {at r₁ r₂ : ℕ} {l m : List ℕ} → Wrote t at l t₁ r₁ → Wrote t₁ r₁ m t₂ r₂ → Wrote t at (l ++ m) t₂ r₂
 wrote-then {t} {t₁} {t₂} {at} {r₁} {r₂} {l} {m} a b = record {
-  wrote = b .wrote ∙ (rw (a .wrote, a .moved) (sets-more t at l m));
+  wrote = b .wrote ∙ (rw (a .wrote, a .moved) (sets-then t at l m));
   moved = rw length-append (omega (arith, a .moved, b .moved));
 }
 
@@ -37,7 +33,4 @@ wrote-kept {t} {t′} {at} {r} {l} a = rw (a .wrote) (length-sets t at l)
 
 -- put from the front into a row that holds it
 pub wrote-whole : {t t′ : List ℕ} {r : ℕ} {l : List ℕ} → Wrote t 0 l t′ r → length l ≤ length t → t′ ≡ l ++ drop (length l) t
-wrote-whole {t} {t′} {r} {l} a h =
-    let h′ : 0 + length l ≤ length t = omega arith in
-    let z : 0 + length l ≡ length l = omega arith in
-    a .wrote ∙ (rw z at (sets-eq l t 0 h′))
+wrote-whole {t} {t′} {r} {l} a h = a .wrote ∙ sets-front t l h

@@ -6,5 +6,4 @@ pub mod Steps
 pub mod Marks
 pub mod Whole
 pub mod Unique
-pub mod ClassWords
 pub mod Held

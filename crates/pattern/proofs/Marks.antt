@@ -8,9 +8,9 @@ use lib.ListN.{length, getD, set, length-set}
 use lib.Seq.{sets, length-sets, set-getD, getD-set-other}
 use Rattle.meaning.specs.Expression.{Re, eps, pos, cat, alt, branch, star, plus, opt, size, marks}
 use Rattle.meaning.specs.ReadPattern.{nodes, kinds, node-of, args}
-use Rattle.laws.specs.Holds.{stands-left, nodes-some, kinds-length, args-length}
+use Rattle.grammar.specs.Holds.{stands-left, nodes-some, kinds-length, args-length}
 use Rattle.pattern.specs.Stores.{bare-args, Lies, Numberable, Numbered, Numbers}
-use Rattle.laws.specs.Writing.{sets-behind}
+use Rattle.bits.proofs.Writing.{sets-behind}
 use Rattle.pattern.proofs.Rows.{writes, sets-comm, stands-end, stands-behind, sets-same, length-bare-args}
 use Rattle.pattern.proofs.Written.{Over, Both, over-branch, over-star, over-plus, over-opt, both-cat, both-alt}
 

@@ -1,14 +1,14 @@
--- Rows written one behind the other, and how long the rows of an expression are. Assumes nothing.
+-- Rows written one behind the other, a row that stands in another, and how long the row of numbers without marks is. Assumes nothing.
 use mathlib.Core.Path.{_≡_, refl, sym, _∙_, ap, ap₂}
 use mathlib.Core.List.{List, [], _∷_, _++_}
-use Prim.Native.Nat.{ℕ, suc, _+_, _*_, _≤_}
+use Prim.Native.Nat.{ℕ, suc, _+_, _≤_}
 use native.Mathlib.Omega.{arith}
 use lib.ListN.{length, getD, set, length-append}
 use lib.Seq.{sets, length-sets, set-comm, set-getD}
 use Rattle.meaning.specs.Expression.{Re, eps, pos, cat, alt, branch, star, plus, opt, size}
-use Rattle.meaning.specs.ReadPattern.{nodes, words}
-use Rattle.laws.specs.Writing.{sets-then, sets-inside}
-use Rattle.laws.specs.Holds.{Stands, stands-left, stands-right, stands-last, stands-at}
+use Rattle.meaning.specs.ReadPattern.{nodes}
+use Rattle.bits.proofs.Writing.{sets-then, sets-inside}
+use Rattle.grammar.specs.Holds.{Stands, stands-left, stands-right, stands-last, stands-at}
 use Rattle.pattern.specs.Stores.{bare-args}
 
 -- r is written at a, and s behind it
@@ -41,7 +41,7 @@ sets-same {t} {u} (v ∷ l) h =
 pub sets-stands : (t : List ℕ) (u : ℕ) (l : List ℕ) → u + length l ≤ length t → Stands l (sets t u l) u
 sets-stands t u l h = record { within = simp length-sets h; here = λ j g. sets-inside t u l j g (omega arith) }
 
--- ---- how long the rows of an expression are
+-- ---- how long the row of numbers without marks is
 
 pub length-bare-args : (k p : ℕ) (e : Re) → length (bare-args k p e) ≡ nodes e
 unfolding bare-args nodes
@@ -53,14 +53,3 @@ length-bare-args k p (branch x) = let h = length-bare-args k p x in simp length-
 length-bare-args k p (star x) = let h = length-bare-args k p x in simp length-append (omega arith)
 length-bare-args k p (plus x) = let h = length-bare-args k p x in simp length-append (omega arith)
 length-bare-args k p (opt x) = let h = length-bare-args k p x in simp length-append (omega arith)
-
-pub length-words : (e : Re) → length (words e) ≡ 4 * size e
-unfolding words size
-length-words eps = refl
-length-words (pos c) = refl
-length-words (cat x y) = let h = length-words x in let g = length-words y in simp length-append (omega arith)
-length-words (alt x y) = let h = length-words x in let g = length-words y in simp length-append (omega arith)
-length-words (branch x) = length-words x
-length-words (star x) = length-words x
-length-words (plus x) = length-words x
-length-words (opt x) = length-words x

@@ -6,7 +6,7 @@ use Prim.Native.Nat.{ℕ}
 use lib.Dec.{eqb}
 use Rattle.meaning.specs.ReadPattern as meaning
 use Rattle.meaning.specs.Promise as promise
-use Rattle.laws.specs.Promises.{read-one}
+use Rattle.grammar.specs.ReadPromise.{read-one}
 use Rattle.pattern.specs.Answers.{number-of, value-of, parts-of}
 use Rattle.pattern.specs.declared.Reading.{Reading}
 use Rattle.pattern.specs.declared.Reading.the-variants.{Read, TooLong, NoPattern, TooDeep, ManyPositions, ManyMarks}

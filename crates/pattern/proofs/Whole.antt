@@ -1,19 +1,19 @@
 -- The whole pattern: which answer the readings allow. Assumes nothing.
 use mathlib.Core.Path.{_≡_, sym, _∙_, ap, ap₂}
 use mathlib.Core.List.{List, _++_}
-use Prim.Native.Nat.{ℕ, zero, suc, _+_, _-_, _*_, _≤_, _<_}
+use Prim.Native.Nat.{ℕ, zero, suc, _-_, _*_, _≤_, _<_}
 use native.Mathlib.Omega.{arith}
-use native.Mathlib.Nat.{zero-add}
 use lib.ListN.{length, getD, drop, replicate, length-replicate}
-use lib.Seq.{sets, sets-eq, length-sets, drop-append-seam}
+use lib.Seq.{sets, length-sets, drop-append-seam}
 use Rattle.meaning.specs.Expression.{Re, size, marks}
 use Rattle.meaning.specs.Grammar.{Pattern}
 use Rattle.meaning.specs.ReadPattern.{nodes, kinds, args, words, padded, read-pattern, no-parts}
 use Rattle.meaning.specs.Promise.{Read, refused, accepted, not-a-pattern, nested, positions, over-marks, Accepted}
+use Rattle.bits.proofs.Writing.{sets-front}
 use Rattle.grammar.specs.Place.{Stops, stops-mistake}
-use Rattle.grammar.specs.ByteTests.{bytes-of}
+use Rattle.grammar.specs.ByteRow.{bytes-of}
 use Rattle.grammar.specs.Contract.{List-done, List-bad, read-done, read-bad, read-short}
-use Rattle.laws.specs.Holds.{nodes-some, kinds-length, args-length}
+use Rattle.grammar.specs.Holds.{nodes-some, kinds-length, args-length, length-words}
 use Rattle.pattern.specs.Answers.{number-of, value-of, parts-of, Refusal}
 use Rattle.pattern.specs.Stores.{bare-args, Stores, stores, Became, Lies, Numberable, Numbers}
 use Rattle.pattern.specs.Parts.{Read-to}
@@ -21,7 +21,7 @@ use Rattle.pattern.specs.declared.nodes.Cursor.{Cursor}
 use Rattle.pattern.specs.declared.Reading.{Reading}
 use Rattle.pattern.specs.declared.ReadPattern.{ReadPattern}
 use Rattle.pattern.specs.declared.Answer.{Answer}
-use Rattle.pattern.proofs.Rows.{sets-stands, length-bare-args, length-words}
+use Rattle.pattern.proofs.Rows.{sets-stands, length-bare-args}
 
 -- ---- rows of zeros, written from the front on
 
@@ -30,9 +30,6 @@ zeros n = replicate n 0
 
 abbrev pub blank : Stores
 blank = stores (zeros 1024) (zeros 1024) (zeros 256)
-
-front : (t l : List ℕ) → length l ≤ length t → sets t 0 l ≡ l ++ drop (length l) t
-front t l h = sets-eq l t 0 (omega arith) ∙ ap (λ (k : ℕ). l ++ drop k t) (zero-add (length l))
 
 length-zeros : (n : ℕ) → length (zeros n) ≡ n
 length-zeros n = length-replicate n 0
@@ -43,7 +40,7 @@ drop-zeros (suc k) zero = let e : 0 - suc k ≡ 0 = omega arith in rw e
 drop-zeros (suc k) (suc n) = let e : suc n - suc k ≡ n - k = omega arith in rw e (drop-zeros k n)
 
 pub written-once : (n : ℕ) (l : List ℕ) → length l ≤ n → sets (zeros n) 0 l ≡ padded n l
-written-once n l h = front (zeros n) l (omega (arith, length-zeros n)) ∙ ap (λ (r : List ℕ). l ++ r) (drop-zeros (length l) n)
+written-once n l h = sets-front (zeros n) l (omega (arith, length-zeros n)) ∙ ap (λ (r : List ℕ). l ++ r) (drop-zeros (length l) n)
 
 pub written-twice : {t : List ℕ} (n : ℕ) (l r : List ℕ) → t ≡ sets (zeros n) 0 l → length l ≡ length r → length l ≤ n → sets t 0 r ≡ padded n r
 written-twice {t} n l r q e h =
@@ -53,7 +50,7 @@ written-twice {t} n l r q e h =
     ap₂ (λ (k : ℕ) (v : List ℕ). drop k v) (sym e) q′
     ∙ drop-append-seam l (zeros (n - length l))
     ∙ ap (λ (k : ℕ). zeros (n - k)) e in
-    front t r (omega arith) ∙ ap (λ (v : List ℕ). r ++ v) rest
+    sets-front t r (omega arith) ∙ ap (λ (v : List ℕ). r ++ v) rest
 
 -- ---- what is read of the whole
 

@@ -8,10 +8,10 @@ use lib.ListN.{length, set, length-set}
 use lib.Seq.{sets, length-sets}
 use Rattle.meaning.specs.Expression.{Re, eps, pos, cat, alt, branch, star, plus, opt, size, marks}
 use Rattle.meaning.specs.ReadPattern.{nodes, kinds, node-of, args, words}
-use Rattle.laws.specs.Holds.{kinds-length}
+use Rattle.grammar.specs.Holds.{kinds-length, length-words}
 use Rattle.pattern.specs.Stores.{bare-args, Stores, stores, Room, Put, Became, Wrote}
 use Rattle.pattern.specs.declared.nodes.Cursor.{Cursor}
-use Rattle.pattern.proofs.Rows.{writes, length-bare-args, length-words}
+use Rattle.pattern.proofs.Rows.{writes, length-bare-args}
 
 -- ---- nodes over one part and over two
 

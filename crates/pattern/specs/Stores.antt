@@ -7,7 +7,7 @@ use lib.ListN.{length, set}
 use lib.Seq.{sets}
 use Rattle.meaning.specs.Expression.{Re, eps, pos, cat, alt, branch, star, plus, opt, marks, size}
 use Rattle.meaning.specs.ReadPattern.{nodes, kinds, node-of, words, args}
-use Rattle.laws.specs.Holds.{Stands}
+use Rattle.grammar.specs.Holds.{Stands}
 use Rattle.sets.specs.declared.class.Class.{Class}
 use Rattle.sets.specs.Classes.{among}
 use Rattle.pattern.specs.declared.nodes.Cursor.{Cursor}

@@ -11,6 +11,7 @@ use lib.Seq.{take-suc, drop-cons, getD-take, length-take-le}
 use Rattle.meaning.specs.Expression.{Re, cat, marks, size}
 use Rattle.meaning.specs.Grammar.{Bytes, no-byte, byte, Longest}
 use Rattle.meaning.specs.Tree.{closing, Some, some, Tree, t-eps, t-pos, t-cat, t-left, t-branch, t-none, t-once, t-skip, Begins}
+use Rattle.grammar.specs.ByteRow.{bytes-append}
 use Rattle.grammar.specs.Open.{Open, names, o-eps, o-pos, o-cat, o-alt, o-branch, o-star, o-plus, o-opt}
 use Rattle.positions.specs.Complete.{lift, join, complete}
 use Rattle.positions.specs.Positions.{Out, pass, at}
@@ -21,10 +22,6 @@ use Rattle.positions.specs.Positions.{Trace, done, step, link, Walk, wal
 use Rattle.positions.specs.Sets.{firsts, follows, firsts-full, firsts-some, follows-full, follows-some}
 use Rattle.positions.specs.Sound.{walked}
 use Rattle.positions.specs.Tests.{reads, reads-full, reads-some}
-
-bytes-append : {s t : List ℕ} → Bytes s → Bytes t → Bytes (s ++ t)
-bytes-append no-byte k = k
-bytes-append (byte h i) k = byte h (bytes-append i k)
 
 -- some text of bytes with the property
 abbrev Some-text : (List ℕ → List ℕ → Type 0) → Type 0

@@ -1,7 +1,7 @@
 -- The theorem: when a text has a tree, which is its first, and whether there is another.
 use mathlib.Core.Path.{_≡_, refl, sym, _∙_}
-use mathlib.Core.Bool.{Bool, true, false, cond, true≢false, false≢true, or-false, and-true, and-false}
-use mathlib.Core.List.{List, [], _∷_}
+use mathlib.Core.Bool.{Bool, true, false, cond, true≢false}
+use mathlib.Core.List.{List}
 use Prim.Native.Nat.{ℕ, _≤_}
 use Rattle.meaning.specs.Expression.{Re, marks}
 use Rattle.meaning.specs.Tree.{First, Flag, another, alone, NoTree}
@@ -9,10 +9,8 @@ use Rattle.grammar.specs.Fair.{Fair}
 use Rattle.positions.specs.Alive.{ended, alive, alive-full}
 use Rattle.positions.specs.Complete.{complete}
 use Rattle.positions.specs.Positions.{link, Walk}
-use Rattle.positions.specs.Sets.{firsts, Meet, leads-meet}
-use Rattle.positions.specs.Tests.{nullable, leads, feasible, hits, leads-some, feasible-full}
+use Rattle.positions.specs.Tests.{feasible, feasible-full}
 use Rattle.positions.specs.Texts.{rowIn, otherIn, textRun, text-first, text-other}
-use Rattle.bits.specs.Truth.{alike}
 
 -- the walk can begin: the empty text is passed, or an alive position comes first
 abbrev pub found : Re → List ℕ → Bool
@@ -24,28 +22,11 @@ firstRow e s = rowIn (textRun e s)
 abbrev pub otherTree : Re → List ℕ → Bool
 otherTree e s = otherIn (textRun e s)
 
-none-leads : (e : Re) → leads 0 e (alive e []) ≡ false
-unfolding alive
-none-leads e = alike _ _ (λ h. elim (leads-some 0 0 e (alive e []) h) [ hits w k ↦ k ]) (λ h. absurd (false≢true h))
-
-pub found-empty : (e : Re) → found e [] ≡ nullable e
-found-empty e = rw (none-leads e, and-true (nullable e))
-
-pub found-text : (e : Re) (c : ℕ) (s : List ℕ) → found e (c ∷ s) ≡ leads 0 e (alive e (c ∷ s))
-found-text e c s = rw (and-false (nullable e), or-false (leads 0 e (alive e (c ∷ s))))
-
 walk-found : {e : Re} {s r : List ℕ} → Walk 0 0 e s r → found e s ≡ true
 walk-found (link w t) = feasible-full w (alive-full t)
 
 pub no-tree : (e : Re) (s : List ℕ) → found e s ≡ false → NoTree e s
 no-tree e s n r t = true≢false (sym (walk-found (complete 0 t)) ∙ n)
-
--- in terms of the sets
-pub no-tree-empty : (e : Re) → nullable e ≡ false → NoTree e []
-no-tree-empty e n = no-tree e [] (found-empty e ∙ n)
-
-pub no-tree-text : (e : Re) (c : ℕ) (s : List ℕ) → (Meet (firsts 0 e) (alive e (c ∷ s)) → ⊥) → NoTree e (c ∷ s)
-no-tree-text e c s n r t = n (leads-meet 0 e (alive e (c ∷ s)) .0 (sym (found-text e c s) ∙ walk-found (complete 0 t)))
 
 module _ (e : Re) (f : Fair e) (h : marks e ≤ 127) (s : List ℕ) (i : found e s ≡ true) where
   pub first-tree : First e s (firstRow e s)

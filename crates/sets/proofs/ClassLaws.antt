@@ -1,12 +1,11 @@
 -- What a caller's proof may want of classes beside the contracts. Assumes nothing.
-use mathlib.Core.Path.{_≡_, refl, sym, ap, _∙_}
+use mathlib.Core.Path.{_≡_, sym, ap, _∙_}
 use mathlib.Core.Bool.{Bool}
 use mathlib.Core.List.{List}
 use Prim.Native.Nat.{ℕ, _+_, _*_, _/_, _%_, _<_}
 use native.Mathlib.Omega.{arith}
 use borrow.Author.Needs.{needs}
 use lib.ListN.{getD}
-use lib.Seq.{ext-getD}
 use mir.Syntax.{w64}
 use mir.Val.{Val, Fits}
 use denote.Laws.{Is}
@@ -39,12 +38,3 @@ unfolding among
 word-class k f e q l =
     let i = q / 64 in
     ap (λ (x : ℕ). bit 64 x (q % 64)) (e i (omega arith)) ∙ bit-binary 64 (λ j. f (64 * i + j)) (q % 64) (omega arith) ∙ ap f (omega arith)
-
-pub same-class : {k l : Class} → ClassFits k → ClassFits l → ((q : ℕ) → q < 256 → among k q ≡ among l q) → k ≡ l
-same-class {k} {l} h m e =
-    ap made
-    (ext-getD 0 (k .words) (l .words) (h .four ∙ sym (m .four))
-    (λ i n. class-word k (among l) h e i (omega (arith, h .four)) ∙ sym (class-word l (among l) m (λ q _. refl) i (omega (arith, h .four)))))
-  where
-    made : List ℕ → Class
-    made w = record { words = w }

@@ -1,22 +1,17 @@
 -- What a caller's proof may want of sets beside the contracts. Assumes nothing.
 use mathlib.Core.Path.{_≡_, refl, sym, ap, ap₂, _∙_}
 use mathlib.Core.Bool.{Bool, true, false, _&&_, not}
-use mathlib.Core.List.{List}
 use Prim.Native.Nat.{ℕ, zero, suc, _≤_, _<_}
 use native.Mathlib.Omega.{arith}
 use lib.Dec.{eqb}
 use lib.ListN.{getD, replicate}
-use mir.Syntax.{w64}
-use mir.Val.{Val, Fits}
-use denote.Laws.{Is}
-use borrow.Author.Tests.{ne-eqb, not-true, not-false}
+use borrow.Author.Tests.{ne-eqb}
 use Rattle.sets.specs.declared.set.Set.{Set}
-use Rattle.sets.specs.Members.{has, limit, size, vacant, meets, Least, SetFits, row}
-use Rattle.sets.proofs.set.Set.{the-row}
+use Rattle.sets.specs.Members.{has, limit, size, meets, Least, row}
 use Rattle.bits.specs.Bit.{bit}
 use Rattle.bits.specs.Truth.{both, and-both}
-use Rattle.bits.proofs.Bits.{bit-none, bit-lt, bit-same}
-use Rattle.bits.proofs.Tallies.{any-at, any-none, any-some, tally-less}
+use Rattle.bits.proofs.Bits.{bit-none, bit-lt}
+use Rattle.bits.proofs.Tallies.{any-at, any-some, tally-less}
 
 -- ---- a set's members
 
@@ -32,14 +27,6 @@ module _ (s : Set) where
       go : (t : Bool) → has s q ≡ t → has s q ≡ false
       go true e = g q (has-lt q e)
       go false e = e
-
-  pub vacant-none : vacant s ≡ true → (q : ℕ) → has s q ≡ false
-  unfolding vacant
-  vacant-none e = none (any-none (has s) limit (not-true _ e))
-
-  pub vacant-some : vacant s ≡ false → (q : ℕ) × (has s q ≡ true)
-  unfolding vacant
-  vacant-some e = let w = any-some (has s) limit (not-false _ e) in (w .0, w .2)
 
   -- where the least member is the limit there is none
   pub least-none : (r : ℕ) → Least s r → limit ≤ r → (q : ℕ) → has s q ≡ false
@@ -83,21 +70,3 @@ zero-at (suc n) (suc p) = zero-at n p
 pub zeros-empty : (n p q : ℕ) → has (row (replicate n 0) p) q ≡ false
 unfolding has row
 zeros-empty n p q = ap (λ (x : ℕ). bit limit x q) (zero-at n p) ∙ bit-none limit q
-
--- ---- members settle a set that code holds
-
--- a parameter's `c .good` has the premise at its place, as `c .good .0`, and a call's result has it as `c .f .ok`
-pub set-fits : {s : Set} {vs : List Val} → Is the-row s vs → SetFits s
-set-fits h = record { fits = omega arith }
-
--- a `&[u64]` has the premise as `c .shared-slice-known .given`, a `&mut [u64]` as `c .slice-known .given`
-pub row-fits : (l : List ℕ) (p : ℕ) → ((i : ℕ) → Fits w64 (getD l i 0)) → SetFits (row l p)
-unfolding row
-row-fits l p h = record { fits = h p .fits }
-
-pub same-set : {s t : Set} → SetFits s → SetFits t → ((q : ℕ) → has s q ≡ has t q) → s ≡ t
-unfolding has
-same-set {s} {t} h l e = ap made (bit-same limit (s .bits) (t .bits) (h .fits) (l .fits) (λ p _. e p))
-  where
-    made : ℕ → Set
-    made n = record { bits = n }

@@ -9,7 +9,7 @@ use Rattle.bits.specs.Words.{inWords}
 unfoldable pub among : Class → ℕ → Bool
 among k q = inWords 64 (k .words) q
 
--- k is a class that code can hold: `class-fits` of proofs/ClassLaws shows it, and members settle such a class
+-- k is a class that code can hold: `class-fits` of proofs/ClassLaws shows it
 pub record ClassFits (k : Class) : Type 0 where
   pub four : length (k .words) ≡ 4
   pub fits : (i : ℕ) → getD (k .words) i 0 < 2 ^ 64

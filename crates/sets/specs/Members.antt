@@ -1,5 +1,5 @@
 -- Membership of a set: all that a contract says of one. Assumes nothing.
-use Prim.Native.Nat.{ℕ, _^_, _≤_, _<_}
+use Prim.Native.Nat.{ℕ, _≤_, _<_}
 use mathlib.Core.Path.{_≡_}
 use mathlib.Core.Bool.{Bool, true, false, _&&_, not}
 use mathlib.Core.List.{List}
@@ -32,10 +32,6 @@ pub record Least (s : Set) (r : ℕ) : Type 0 where
   pub within : r ≤ limit
   pub below : (q : ℕ) → q < r → has s q ≡ false
   pub here : r < limit → has s r ≡ true
-
--- s is a set that code can hold: `set-fits` and `row-fits` of proofs/SetLaws show it, and members settle such a set
-pub record SetFits (s : Set) : Type 0 where
-  pub fits : s .bits < 2 ^ 64
 
 -- a table of sets, in cells of one word: how many it has, and the one at p
 unfoldable pub rows : List ℕ → ℕ

@@ -3,7 +3,7 @@ ghost use mathlib.Core.Path.{_≡_};
 ghost use mathlib.Core.Bool.{true, false, _&&_, _||_, not};
 ghost use Prim.Native.Nat.{ℕ, _<_};
 ghost use lib.Dec.{eqb};
-ghost use Rattle.sets.specs.Members.{has, limit, size, vacant, meets, Least, rows, row, Stored};
+ghost use Rattle.sets.specs.Members.{has, limit, vacant, meets, Least, rows, row, Stored};
 
 // Position p is the bit p.
 pub struct Set {
@@ -47,14 +47,6 @@ impl Set {
         Set {
             bits: self.bits & !(1u64 << p),
         }
-    }
-
-    // Is p a member?
-    pub fn has(self, p: usize) -> bool
-        requires { ⌜ p < limit ⌝ }
-        ensures { λ r. ⌜ r ≡ has self p ⌝ }
-    {
-        (self.bits >> p) % 2 == 1
     }
 
     // What is in one set or the other.
@@ -104,13 +96,6 @@ impl Set {
         ensures { λ r. ⌜ Least self r ⌝ }
     {
         u64::trailing_zeros(self.bits) as usize
-    }
-
-    // How many members there are.
-    pub fn count(self) -> usize
-        ensures { λ r. ⌜ r ≡ size self ⌝ }
-    {
-        u64::count_ones(self.bits) as usize
     }
 
     // The set that a table of sets has at p.

@@ -9,7 +9,7 @@ use lib.ListN.{length}
 use borrow.Author.Tests.{ltb-true, ltb-false, le-leb, lt-leb}
 use Rattle.meaning.specs.Expression.{Re}
 use Rattle.meaning.specs.Promise.{Judged, small-room, Answered, few-cells}
-use Rattle.laws.specs.Promises.{refused-not-0}
+use Rattle.grammar.specs.ReadPromise.{refused-range}
 use Rattle.tree.specs.declared.search.Found.{Found}
 use Rattle.tree.specs.declared.search.Found.the-variants as found
 use Rattle.tree.specs.declared.first_tree.Outcome.{Outcome}
@@ -38,7 +38,7 @@ pub fits : {pat text cells room cells′ room′ : List ℕ} {n v f : ℕ} → S
 fits (Searched.long-pattern h) z l = absurd (omega arith)
 fits (Searched.long-text h k) z l = absurd (omega arith)
 fits (Searched.few-cells h k j) z l = absurd (omega arith)
-fits (Searched.refused g r) z l = absurd (refused-not-0 r z)
+fits (Searched.refused g r) z l = absurd (omega (arith, refused-range r))
 fits (sought g a s) z l = Answered.judged g a (fits-sought s z l)
 
 -- a tree whose row it does not hold
@@ -50,7 +50,7 @@ pub long : {pat text cells room cells′ room′ : List ℕ} {n v f : ℕ} → S
 long (Searched.long-pattern h) z l = absurd (omega arith)
 long (Searched.long-text h k) z l = absurd (omega arith)
 long (Searched.few-cells h k j) z l = absurd (omega arith)
-long (Searched.refused g r) z l = absurd (refused-not-0 r z)
+long (Searched.refused g r) z l = absurd (omega (arith, refused-range r))
 long (sought g a s) z l = Answered.judged g a (long-sought s z l)
 
 abbrev tree-told : ℕ → Bool → Bool → Outcome

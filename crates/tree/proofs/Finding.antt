@@ -14,7 +14,7 @@ use Rattle.meaning.specs.Promise.{cleared}
 use Rattle.passes.specs.Masks.{Masked}
 use Rattle.passes.specs.Ways.{Backed}
 use Rattle.passes.proofs.Living.{living-alive}
-use Rattle.grammar.specs.ByteTests.{bytes-of}
+use Rattle.grammar.specs.ByteRow.{bytes-of}
 use Rattle.passes.proofs.Marked.{masked-classes}
 use Rattle.sets.proofs.SetLaws.{zeros-empty}
 use Rattle.passes.proofs.Rests.{backed-past}
@@ -24,14 +24,10 @@ use Rattle.sets.specs.Members.{row, rows}
 use Rattle.walks.specs.Root.{Root, Tabled}
 use Rattle.tree.specs.declared.search.Found.{Found}
 use Rattle.tree.specs.Judge.{Given, Judgeable, SoughtAs, Finds}
-use Rattle.along.specs.Walk.{Charted}
 
 -- the elements of a slice of bytes
 pub bytes-fit : (l : List ℕ) → ((i : ℕ) → Fits w8 (getD l i 0)) → Bytes l
 bytes-fit l h = bytes-of l (λ i _. h i .fits)
-
-pub charted-of : {ks gs ns fs us ts : List ℕ} {root : ℕ} {last : Set} → Tabled ks gs ns fs us ts root last → Charted ks gs ns fs us ts root
-charted-of T = record { scanned = T .scanned; upto = T .upto; long = T .long; follow = T .follow }
 
 -- what is left in the cells, cleared
 pub cleared-cells : {mask follow text l m m′ : List ℕ} {ends : Set} → Backed mask follow ends text l m → m′ ≡ replicate (length text + 1) 0 ++ drop (length text + 1) m → m′ ≡ cleared text l
@@ -39,26 +35,20 @@ cleared-cells {text = text} B e = e ∙ ap (λ (r : List ℕ). replicate (length
 
 module _ {e : Re} {ks gs cs : List ℕ} {root n k : ℕ} (G : Given e ks gs cs root n k) where
   pub given-root : Root ks gs root
-  given-root = record { e = e; holds = G .holds; all = G .all; within = G .within; few = G .few-positions }
+  given-root = record { e = e; holds = G .rooted .holds; all = G .all; within = G .rooted .within; few = G .rooted .few-positions }
 
   module _ {ns fs us ts mask : List ℕ} {last : Set} (T : Tabled ks gs ns fs us ts root last) (M : Masked cs n (replicate 256 0) mask) where
     exact : Tables e mask ts last (row fs root)
     exact = record {
       reading = λ b q h. masked-classes (zeros-empty 256) M b q h ∙ sym (G .classes q b h);
-      following = λ j q h. T .follow e (G .holds) j h q;
-      ending = λ q. T .ends e (G .holds) q;
-      beginning = λ q. T .scanned .first root (omega arith) .has-firsts e 0 0 (G .holds) q;
+      following = λ j q h. T .charted .follow e (G .rooted .holds) j h q;
+      ending = λ q. T .ends e (G .rooted .holds) q;
+      beginning = λ q. T .charted .scanned .first root (omega arith) .has-firsts e 0 0 (G .rooted .holds) q;
     }
 
     pub judgeable : {text l m : List ℕ} → Backed mask ts last text l m → ((i : ℕ) → Fits w8 (getD text i 0)) → length text ≤ text-limit → length text < rows l → Judgeable e ks gs fs mask ts root k text m
     judgeable {text} {l} {m} B b s h = record {
-      holds = G .holds;
-      within = G .within;
-      fair = G .fair;
-      can-read = G .can-read;
-      few-marks = G .few-marks;
-      few-positions = G .few-positions;
-      marks-are = G .marks-are;
+      rooted = G .rooted;
       bytes = bytes-fit text b;
       short = s;
       enough = omega (arith, B .same-rows);

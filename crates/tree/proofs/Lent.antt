@@ -6,10 +6,10 @@ use native.Mathlib.Omega.{arith}
 use lib.ListN.{length}
 use Rattle.meaning.specs.Expression.{Re, marks}
 use Rattle.meaning.specs.Limits.{text-limit, mark-limit, cells-for, room-for}
-use Rattle.meaning.specs.Promise.{Refused, not-a-pattern, nested, positions, Accepted, Judged, small-room, Answered, few-cells}
-use Rattle.laws.specs.Accepted.{accepted-room}
-use Rattle.laws.specs.Promises.{accepted-one}
+use Rattle.meaning.specs.Promise.{Accepted, Ready, Judged, small-room, Answered, few-cells}
+use Rattle.grammar.specs.ReadPromise.{refused-range}
 use Rattle.tree.specs.Lending.{Enough, enough}
+use Rattle.tree.proofs.Meaning.{room-is-enough}
 
 pub enough-one : {m n c t c′ t′ : ℕ} → Enough m n c t → Enough m n c′ t′ → (c ≡ c′) × (t ≡ t′)
 enough-one (Enough.long-text h) (Enough.long-text h′) = (refl, refl)
@@ -21,13 +21,6 @@ enough-one (Enough.over-marks h k) (enough h′ k′) = absurd (omega arith)
 enough-one (enough h k) (Enough.long-text h′) = absurd (omega arith)
 enough-one (enough h k) (Enough.over-marks h′ k′) = absurd (omega arith)
 enough-one (enough h k) (enough h′ k′) = (refl, refl)
-
--- a pattern's own refusals are the numbers 4 to 7
-refused-range : {pat : List ℕ} {n v : ℕ} → Refused pat n v → (4 ≤ n) × (n ≤ 7)
-refused-range (not-a-pattern x l) = (omega arith, omega arith)
-refused-range (nested p h) = (omega arith, omega arith)
-refused-range (positions p h k) = (omega arith, omega arith)
-refused-range (Refused.over-marks p h k j) = (omega arith, omega arith)
 
 -- for a text within its limit the cells are enough, and for a pattern within its the tokens too
 enough-cells : {m n c t : ℕ} → Enough m n c t → n ≤ text-limit → cells-for n ≤ c
@@ -56,17 +49,18 @@ module _ {pat text cells room cells′ room′ : List ℕ} {n v f m c t : ℕ} (
       go (Answered.refused g r) z = omega (arith, refused-range r)
       go (Answered.judged g a j) z = judged j z
 
-  pub never-small-room : {e : Re} → Accepted pat e → m ≡ marks e → t ≤ length room → n ≡ 9 → ⊥
-  never-small-room {e} a i l z = go x z
+  -- 9 is answered for want of room alone
+  nine-ready : n ≡ 9 → Ready pat text cells
+  nine-ready z = go x z
     where
-      judged : {n v f : ℕ} {r : List ℕ} → length text ≤ text-limit → Judged e text room n v f r → n ≡ 9 → ⊥
-      judged s (Judged.no-tree y p) z = omega arith
-      judged s (small-room y p) z = omega (arith, accepted-room a (y .tree), rw i at (enough-tokens E s (rw i (a .few-marks))))
-      judged s (Judged.tree y p w) z = omega arith
+      go : {n v f : ℕ} {u r : List ℕ} → Answered pat text cells room n v f u r → n ≡ 9 → Ready pat text cells
+      go (Answered.long-pattern h) z = absurd (omega arith)
+      go (Answered.long-text h k) z = absurd (omega arith)
+      go (few-cells h k j) z = absurd (omega arith)
+      go (Answered.refused g r) z = g
+      go (Answered.judged g a j) z = g
 
-      go : {n v f : ℕ} {u r : List ℕ} → Answered pat text cells room n v f u r → n ≡ 9 → ⊥
-      go (Answered.long-pattern h) z = omega arith
-      go (Answered.long-text h k) z = omega arith
-      go (few-cells h k j) z = omega arith
-      go (Answered.refused g r) z = omega (arith, refused-range r)
-      go (Answered.judged g a′ j) z = judged (g .short-text) (rw (accepted-one a′ a) at j) z
+  pub never-small-room : {e : Re} → Accepted pat e → m ≡ marks e → t ≤ length room → n ≡ 9 → ⊥
+  never-small-room a i l z =
+      let g = nine-ready z in
+      room-is-enough x g a (omega (arith, rw i at (enough-tokens E (g .short-text) (rw i (a .few-marks))))) z

@@ -5,5 +5,6 @@ pub mod Settled
 pub mod Meaning
 pub mod Judging
 pub mod Finding
+pub mod ClassWords
 pub mod Searching
 pub mod Lent

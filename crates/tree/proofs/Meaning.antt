@@ -10,8 +10,9 @@ use Rattle.meaning.specs.Expression.{Re, marks}
 use Rattle.meaning.specs.Limits.{room-for}
 use Rattle.meaning.specs.Promise.{Accepted, Ready, Judged, small-room, Answered, few-cells}
 use Rattle.meaning.specs.Tree.{First, Other, Flag, another, alone, NoTree, erase}
-use Rattle.laws.specs.Accepted.{accepted-erases, accepted-room}
-use Rattle.laws.specs.Promises.{accepted-one, refused-accepted}
+use Rattle.grammar.specs.ReadPromise.{accepted-one, refused-accepted}
+use Rattle.positions.specs.Erased.{erases}
+use Rattle.positions.specs.Room.{row-length}
 
 -- an answer for a pattern that is accepted, where enough is lent
 pub judged-of : {pat text cells room cells′ room′ : List ℕ} {e : Re} {n v f : ℕ} → Answered pat text cells room n v f cells′ room′ → Ready pat text cells → Accepted pat e
@@ -48,7 +49,7 @@ module _ {pat text cells room cells′ room′ : List ℕ} {e : Re} {n v f : ℕ
 
   -- and its marks erased it is the text
   pub row-erases-to-text : n ≡ 0 → erase (take v room′) ≡ text
-  row-erases-to-text z = accepted-erases a (row-is-first z .tree)
+  row-erases-to-text z = erases (omega (arith, a .few-marks)) (row-is-first z .tree)
 
   -- the flag says exactly whether there is another tree
   pub flag-is-exact : n ≡ 0 → (f ≡ 1) ↔ Other e text
@@ -69,5 +70,5 @@ module _ {pat text cells room cells′ room′ : List ℕ} {e : Re} {n v f : ℕ
     where
       go : {n v f : ℕ} {t : List ℕ} → Judged e text room n v f t → n ≡ 9 → ⊥
       go (Judged.no-tree y l) z = omega arith
-      go (small-room y l) z = let k = accepted-room a (y .tree) in omega arith
+      go (small-room y l) z = omega (arith, row-length e 0 _ _ (y .tree))
       go (Judged.tree y l w) z = omega arith

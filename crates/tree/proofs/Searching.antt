@@ -10,9 +10,8 @@ use Rattle.meaning.specs.Expression.{Re}
 use Rattle.meaning.specs.Limits.{pattern-limit, text-limit}
 use Rattle.meaning.specs.Promise.{Ready, Refused}
 use Rattle.meaning.specs.ReadPattern.{nodes}
-use Rattle.laws.specs.Accepted.{accepted-fair, accepted-open}
-use Rattle.laws.specs.Holds.{nodes-some}
-use Rattle.passes.specs.Masks.{classed}
+use Rattle.grammar.specs.Accepted.{accepted-fair, accepted-open}
+use Rattle.grammar.specs.Holds.{nodes-some}
 use Rattle.pattern.specs.declared.Answer.{Answer}
 use Rattle.pattern.specs.declared.ReadPattern.{ReadPattern}
 use Rattle.pattern.specs.declared.Reading.{Reading}
@@ -22,6 +21,7 @@ use Rattle.pattern.proofs.Unique.{Answers}
 use Rattle.tree.specs.declared.search.Found.{Found}
 use Rattle.tree.specs.Judge.{Given, Gives, Finds}
 use Rattle.tree.specs.Search.{Searched, refused, sought, number-of, value-of, flag-of}
+use Rattle.tree.proofs.ClassWords.{reads-classed}
 use Rattle.tree.proofs.Finding.{bytes-fit}
 
 -- no line before 4 applies
@@ -31,21 +31,22 @@ ready h k l = record { short-pattern = h; short-text = k; cells-enough = omega a
 module _ {pat : List ℕ} {P : ReadPattern} (bytes : (i : ℕ) → Fits w8 (getD pat i 0)) (H : Held pat P) where
   -- the read pattern holds what the pattern denotes
   given-of : Given (H .denotes) (P .kind) (P .arg) (P .class) (P .nodes - 1) (P .positions) (P .marks)
-  unfolding classed
   given-of =
       let h = H .holding in
       let some = nodes-some (H .denotes) in
       record {
-        holds = h .holds;
+        rooted = record {
+          holds = h .holds;
+          within = omega (arith, h .few-nodes);
+          fair = accepted-fair (H .accepted);
+          can-read = accepted-open (H .accepted) (bytes-fit pat bytes);
+          few-marks = H .accepted .few-marks;
+          few-positions = H .accepted .few-positions;
+          marks-are = h .marks-are;
+        };
         all = omega (arith, h .nodes-are);
-        within = omega (arith, h .few-nodes);
-        fair = accepted-fair (H .accepted);
-        can-read = accepted-open (H .accepted) (bytes-fit pat bytes);
-        few-marks = H .accepted .few-marks;
-        few-positions = H .accepted .few-positions;
         positions-are = h .positions-are;
-        marks-are = h .marks-are;
-        classes = h .classes;
+        classes = reads-classed (H .denotes) (h .classes) (h .positions-are);
       }
 
   pub gives : Gives (P .kind) (P .arg) (P .class) (P .nodes - 1) (P .positions) (P .marks)

@@ -10,29 +10,31 @@ use Rattle.meaning.specs.Promise.{cleared}
 use Rattle.meaning.specs.ReadPattern.{nodes}
 use Rattle.grammar.specs.Fair.{Fair}
 use Rattle.grammar.specs.Open.{Open}
-use Rattle.laws.specs.Holds.{Holds}
+use Rattle.grammar.specs.Holds.{Holds}
 use Rattle.positions.specs.Alive.{alive}
 use Rattle.positions.specs.Tests.{reads}
-use Rattle.positions.specs.Theorem.{firstRow, otherTree}
 use Rattle.passes.specs.Masks.{classed}
 use Rattle.passes.specs.Tables.{Tables}
 use Rattle.sets.specs.declared.set.Set.{Set}
 use Rattle.sets.specs.Members.{has, row, rows}
 use Rattle.tree.specs.declared.search.Found.{Found}
-use Rattle.along.specs.declared.walk.Walked.{Walked}
 use Rattle.tree.specs.Search.{Sought, number-of, value-of, flag-of}
 
--- the read pattern holds e, which is within the limits, has k marks, and whose n positions have these classes
-pub record Given (e : Re) (ks gs cs : List ℕ) (root n k : ℕ) : Type 0 where
+-- the root holds e, which is within the limits, has k marks, and can be read
+pub record Rooted (e : Re) (ks gs : List ℕ) (root k : ℕ) : Type 0 where
   pub holds : Holds ks gs 0 0 root e
-  pub all : nodes e ≡ suc root
   pub within : root < 1024
   pub fair : Fair e
   pub can-read : Open e
   pub few-marks : marks e ≤ mark-limit
   pub few-positions : size e ≤ position-limit
-  pub positions-are : n ≡ size e
   pub marks-are : k ≡ marks e
+
+-- the read pattern holds e up to the root, and its n positions have these classes
+pub record Given (e : Re) (ks gs cs : List ℕ) (root n k : ℕ) : Type 0 where
+  pub rooted : Rooted e ks gs root k
+  pub all : nodes e ≡ suc root
+  pub positions-are : n ≡ size e
   pub classes : (q b : ℕ) → b < 256 → reads 0 e q b ≡ classed cs n q b
 
 -- for some e
@@ -40,15 +42,9 @@ pub record Gives (ks gs cs : List ℕ) (root n k : ℕ) : Type 0 where
   pub e : Re
   pub given : Given e ks gs cs root n k
 
--- the same with exact tables, and cells that hold the positions that are alive at each place of the text
+-- the root holds e, the tables are exact, and the cells hold the positions that are alive at each place of the text
 pub record Judgeable (e : Re) (ks gs fs mask follow : List ℕ) (root k : ℕ) (text cells : List ℕ) : Type 0 where
-  pub holds : Holds ks gs 0 0 root e
-  pub within : root < 1024
-  pub fair : Fair e
-  pub can-read : Open e
-  pub few-marks : marks e ≤ mark-limit
-  pub few-positions : size e ≤ position-limit
-  pub marks-are : k ≡ marks e
+  pub rooted : Rooted e ks gs root k
   pub bytes : Bytes text
   pub short : length text ≤ text-limit
   pub enough : length text < rows cells
@@ -60,11 +56,6 @@ pub record Judgeable (e : Re) (ks gs fs mask follow : List ℕ) (root k : ℕ) (
 pub record Judges (ks gs fs mask follow : List ℕ) (root k : ℕ) (text cells : List ℕ) : Type 0 where
   pub e : Re
   pub judgeable : Judgeable e ks gs fs mask follow root k text cells
-
--- the length of the first tree's row, and whether there is another tree
-pub record Measures (e : Re) (text : List ℕ) (r : Walked) : Type 0 where
-  pub long : r .length ≡ length (firstRow e text)
-  pub other : r .other ≡ otherTree e text
 
 abbrev pub SoughtAs : Re → List ℕ → List ℕ → List ℕ → Found → Type 0
 SoughtAs e text t t′ r = Sought e text t (number-of r) (value-of r) (flag-of r) t′

@@ -6,10 +6,12 @@ use Prim.Native.Nat.{ℕ, _≤_}
 use native.Mathlib.Omega.{arith}
 use lib.Dec.{eqb}
 use lib.ListN.{length}
+use borrow.Author.Tests.{ne-eqb}
 use Rattle.meaning.specs.Expression.{Re}
 use Rattle.meaning.specs.Limits.{pattern-limit, text-limit}
 use Rattle.meaning.specs.Tree.{Flag, First, another, alone}
-use Rattle.meaning.specs.Promise.{Refused, not-a-pattern, nested, positions, over-marks, Accepted, Trees, none, one, more, Verdict}
+use Rattle.meaning.specs.Promise.{Refused, Trees, none, one, more, Verdict}
+use Rattle.grammar.specs.ReadPromise.{refused-range}
 use Rattle.tree.specs.declared.search.Found.{Found}
 use Rattle.tree.specs.declared.search.Found.the-variants.{LongPattern, LongText, FewCells, NoPattern, TooDeep, ManyPositions, ManyMarks, NoTree}
 use Rattle.tree.specs.Search.{Searched, Sought, no-tree, a-tree, number-of, value-of, flag-of}
@@ -35,10 +37,7 @@ scheduled-number (NoTree p) = refl
 scheduled-number (Found.Tree l o) = tree-number o
 
 refused-verdict : {pat text : List ℕ} {n v : ℕ} → length pat ≤ pattern-limit → length text ≤ text-limit → Refused pat n v → Verdict pat text (number n 0)
-refused-verdict h l (not-a-pattern x p) = Verdict.refused h l (not-a-pattern x p)
-refused-verdict h l (nested p k) = Verdict.refused h l (nested p k)
-refused-verdict h l (positions p k j) = Verdict.refused h l (positions p k j)
-refused-verdict h l (over-marks p k j i) = Verdict.refused h l (over-marks p k j i)
+refused-verdict {n = n} h l r = rw (ne-eqb n 0 (λ z. omega (arith, refused-range r))) (Verdict.refused h l r)
 
 flagged : {e : Re} {text row : List ℕ} {f : ℕ} → First e text row → Flag e text f → Trees e text (number 0 f)
 flagged t (another o) = more o

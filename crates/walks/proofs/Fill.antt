@@ -11,7 +11,7 @@ use lib.ListN.{length, getD, set, length-set}
 use lib.Seq.{getD-set-same, getD-set-other}
 use Rattle.meaning.specs.Expression.{Re}
 use Rattle.meaning.specs.ReadPattern.{nodes}
-use Rattle.laws.specs.Holds.{Holds, nodes-some, nodes-fit}
+use Rattle.grammar.specs.Holds.{Holds, nodes-some, nodes-fit}
 use Rattle.walks.specs.Tables.{Held, Filled, Walked, first-node, number}
 use Rattle.walks.proofs.Parts.{leaf, single, double, leaf-nodes, one-sizes, two-sizes}
 

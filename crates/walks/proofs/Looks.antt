@@ -8,7 +8,7 @@ use native.Mathlib.Omega.{arith}
 use lib.Dec.{eqb}
 use lib.ListN.{getD}
 use Rattle.meaning.specs.Expression.{Re}
-use Rattle.laws.specs.Holds.{Holds}
+use Rattle.grammar.specs.Holds.{Holds}
 use Rattle.positions.specs.Tests.{leads, feasible, nullable}
 use Rattle.positions.specs.Sets.{firsts, Meet, meet, leads-meet}
 use Rattle.bits.specs.Truth.{alike}

@@ -7,7 +7,7 @@ use native.Mathlib.Omega.{arith}
 use lib.ListN.{getD}
 use Rattle.meaning.specs.Expression.{Re, eps, pos, cat, alt, branch, star, plus, opt, marks, size}
 use Rattle.meaning.specs.ReadPattern.{nodes}
-use Rattle.laws.specs.Holds.{Holds, h-eps, h-pos, h-cat, h-alt, h-branch, h-star, h-plus, h-opt, Unary, Binary}
+use Rattle.grammar.specs.Holds.{Holds, h-eps, h-pos, h-cat, h-alt, h-branch, h-star, h-plus, h-opt, Unary, Binary}
 use Rattle.sets.specs.Members.{limit}
 use Rattle.walks.specs.Tables.{Held}
 

@@ -10,7 +10,7 @@ use lib.ListN.{length, getD, set}
 use borrow.Author.Tests.{ne-eqb, lt-ltb, le-ltb}
 use Rattle.meaning.specs.Expression.{Re, marks, size}
 use Rattle.meaning.specs.Tree.{closing}
-use Rattle.laws.specs.Holds.{Holds}
+use Rattle.grammar.specs.Holds.{Holds}
 use Rattle.positions.specs.Positions.{pass as run-pass}
 use Rattle.positions.specs.Tests.{leads, feasible}
 use Rattle.positions.specs.Places.{In}

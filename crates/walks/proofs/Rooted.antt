@@ -27,9 +27,11 @@ module _ {ks gs : List ℕ} {root : ℕ} (R : Root ks gs root) where
   pub root-tabled : {ns fs us t ts : List ℕ} {none last : Set} → Scanned ks gs ns fs root → Known number (EndAt ks gs) us root → rows t ≡ limit → ((q : ℕ) → has none q ≡ false)
       → FollowsAt ks gs root none true t ts none last → Tabled ks gs ns fs us ts root last
   root-tabled S U long empty F = record {
-    scanned = S;
-    upto = U;
-    long = F .filled (R .e) 0 0 (R .holds) .same-count ∙ long;
-    follow = λ e h j l q. F .filled e 0 0 h .right j (omega arith) (omega arith) .has-follows q ∙ rw (empty q) (follows-root e j q);
+    charted = record {
+      scanned = S;
+      upto = U;
+      long = F .filled (R .e) 0 0 (R .holds) .same-count ∙ long;
+      follow = λ e h j l q. F .filled e 0 0 h .right j (omega arith) (omega arith) .has-follows q ∙ rw (empty q) (follows-root e j q);
+    };
     ends = λ e h j. F .ended e 0 0 h j ∙ rw (empty j) (ends-root e j);
   }

@@ -6,7 +6,7 @@ use Prim.Native.Nat.{ℕ, _+_}
 use native.Mathlib.Nat.{add-zero, add-suc, suc-add, add-assoc}
 use native.Mathlib.Numerals.{add-one}
 use lib.ListN.{length, set, length-append}
-use Rattle.laws.specs.Writing.{sets-then}
+use Rattle.bits.proofs.Writing.{sets-then}
 use Rattle.positions.specs.Positions.{Out, pass, at}
 use Rattle.positions.specs.Runs.{Run, run, rowOf, outOf, otherOf, andThen, put, also}
 use Rattle.walks.specs.declared.step.Step.{Step}

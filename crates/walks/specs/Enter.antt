@@ -5,7 +5,7 @@ use mathlib.Core.List.{List}
 use Prim.Native.Nat.{ℕ, suc, _+_, _*_, _<_, _^_}
 use lib.Dec.{eqb}
 use Rattle.meaning.specs.Expression.{Re, marks}
-use Rattle.laws.specs.Holds.{Holds}
+use Rattle.grammar.specs.Holds.{Holds}
 use Rattle.positions.specs.Tests.{leads}
 use Rattle.positions.specs.Runs.{enterRun, loop}
 use Rattle.sets.specs.declared.set.Set.{Set}

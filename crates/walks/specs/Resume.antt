@@ -5,7 +5,7 @@ use mathlib.Core.List.{List}
 use Prim.Native.Nat.{ℕ, suc, _+_, _*_, _<_, _^_}
 use Rattle.meaning.specs.Expression.{Re, marks}
 use Rattle.meaning.specs.Tree.{closing}
-use Rattle.laws.specs.Holds.{Holds}
+use Rattle.grammar.specs.Holds.{Holds}
 use Rattle.positions.specs.Places.{In}
 use Rattle.positions.specs.Tests.{leads}
 use Rattle.positions.specs.Runs.{put, enterRun, resumeRun, loop}

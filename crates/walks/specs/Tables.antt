@@ -7,7 +7,7 @@ use lib.Dec.{eqb}
 use lib.ListN.{getD}
 use Rattle.meaning.specs.Expression.{Re, size}
 use Rattle.meaning.specs.ReadPattern.{nodes}
-use Rattle.laws.specs.Holds.{Holds}
+use Rattle.grammar.specs.Holds.{Holds}
 use Rattle.positions.specs.Tests.{nullable}
 use Rattle.positions.specs.Sets.{firsts}
 use Rattle.sets.specs.declared.set.Set.{Set}

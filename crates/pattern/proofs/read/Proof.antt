@@ -6,7 +6,7 @@ use mathlib.Core.List.{List}
 use Prim.Native.Nat.{ℕ, _≤_, _<_}
 use lib.ListN.{length, getD}
 use Rattle.meaning.specs.Promise.{long-pattern}
-use Rattle.laws.specs.Holds.{nodes-some}
+use Rattle.grammar.specs.Holds.{nodes-some}
 use Rattle.pattern.specs.Stores.{stores}
 use Rattle.pattern.proofs.Whole.{Whole, whole, refusal, stopped, cut-short, too-deep, many-positions, many-marks, numberable, read-whole}
 use Rattle.pattern.proofs.read.Statement.{statement}

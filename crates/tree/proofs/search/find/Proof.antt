@@ -2,7 +2,7 @@
 use mathlib.Core.Path.{refl, sym}
 use native.Mathlib.Omega.{arith}
 use Rattle.sets.specs.Members.{rows}
-use Rattle.tree.proofs.Finding.{given-root, charted-of, judgeable, cleared-cells, finds}
+use Rattle.tree.proofs.Finding.{given-root, judgeable, cleared-cells, finds}
 use borrow.Author.Needs.{needs}
 use Rattle.tree.proofs.search.find.Statement.{statement}
 use Rattle.tree.proofs.search.find.Tie as tie
@@ -16,24 +16,24 @@ slice-aggregate-masks c = search needs
 
 masks-requires : tie.Need-masks-requires
 unfolding rows
-masks-requires c κs = (omega arith, omega (arith, c .before .before .before .before .before .before .before .before .before .pre .0 .given .few-positions, c .before .before .before .before .before .before .before .before .before .pre .0 .given .positions-are))
+masks-requires c κs = (omega arith, omega (arith, c .before .before .before .before .before .before .before .before .before .pre .0 .given .rooted .few-positions, c .before .before .before .before .before .before .before .before .before .pre .0 .given .positions-are))
 
 slice-aggregate-backward : tie.Need-slice-aggregate-backward
 slice-aggregate-backward c = search needs
 
 slice-aggregate-backward-2 : tie.Need-slice-aggregate-backward-2
 unfolding rows
-slice-aggregate-backward-2 c = sym (c .before .before .before .before .before .tables .ensures .long)
+slice-aggregate-backward-2 c = sym (c .before .before .before .before .before .tables .ensures .charted .long)
 
 backward-requires : tie.Need-backward-requires
 unfolding rows
-backward-requires c κs = (omega (arith, c .before .before .before .before .masks .ensures .same-rows), omega (arith, c .before .before .before .before .before .before .tables .ensures .long), c .before .before .before .before .before .before .before .before .before .before .before .before .before .before .pre .1 .1)
+backward-requires c κs = (omega (arith, c .before .before .before .before .masks .ensures .same-rows), omega (arith, c .before .before .before .before .before .before .tables .ensures .charted .long), c .before .before .before .before .before .before .before .before .before .before .before .before .before .before .pre .1 .1)
 
 judge-requires : tie.Need-judge-requires
 unfolding rows
 judge-requires c κs = (
   record { e = c .before .before .before .before .before .before .before .before .before .before .before .before .before .before .before .before .before .before .before .before .before .before .before .before .pre .0 .e; judgeable = judgeable (c .before .before .before .before .before .before .before .before .before .before .before .before .before .before .before .before .before .before .before .before .before .before .before .before .pre .0 .given) (c .before .before .before .before .before .before .before .before .before .before .before .before .before .before .before .before .tables .ensures) (c .before .before .before .before .before .before .before .before .before .before .before .before .before .before .masks .ensures) (c .before .before .before .before .before .before .before .before .before .backward .ensures) (c .before .before .before .before .before .before .before .before .before .before .before .before .before .before .before .before .before .before .before .before .before .before .before .shared-slice-known .given) (c .before .before .before .before .before .before .before .before .before .before .before .before .before .before .before .before .before .before .before .before .before .before .before .before .pre .1 .0) (c .before .before .before .before .before .before .before .before .before .before .before .before .before .before .before .before .before .before .before .before .before .before .before .before .pre .1 .1) },
-  (charted-of (c .before .before .before .before .before .before .before .before .before .before .before .before .before .before .before .before .tables .ensures), (omega (arith, c .before .before .before .before .before .before .before .before .before .before .before .before .before .before .masks .ensures .same-rows), omega (arith, c .before .before .before .before .before .before .before .before .before .before .before .before .before .before .before .before .tables .ensures .long))),
+  (c .before .before .before .before .before .before .before .before .before .before .before .before .before .before .before .before .tables .ensures .charted, (omega (arith, c .before .before .before .before .before .before .before .before .before .before .before .before .before .before .masks .ensures .same-rows), omega (arith, c .before .before .before .before .before .before .before .before .before .before .before .before .before .before .before .before .tables .ensures .charted .long))),
 )
 
 clear-requires : tie.Need-clear-requires

@@ -23,7 +23,7 @@ asked : (c : tie.After-open-to) (e : Re) → Judgeable e (c .before .before .bef
 asked c e j = found-is j (c .before .before .before .before .before .pre .1 .0) (c .before .load .ensures) (c .open-to .ensures)
 
 room-for-requires : tie.Need-room-for-requires
-room-for-requires c κs = let j = c .before .before .before .before .before .before .pre .0 .judgeable in (omega (arith, j .marks-are, j .few-marks), j .short)
+room-for-requires c κs = let j = c .before .before .before .before .before .before .pre .0 .judgeable in (omega (arith, j .rooted .marks-are, j .rooted .few-marks), j .short)
 
 walk-requires : tie.Need-walk-requires
 walk-requires c κs = let j = c .before .before .before .before .before .before .before .before .before .pre .0 .judgeable in (record { e = c .before .before .before .before .before .before .before .before .before .pre .0 .e; walkable = judge-walkable j (sym (asked ((c .before .before .before .before)) _ j) ∙ c .before .before .before .if1 .taken) }, c .before .before .before .before .before .before .before .before .before .pre .1 .0)
@@ -36,7 +36,7 @@ returns : tie.Need-returns
 returns c = λ e j.
     let y = sym (asked ((c .before .before .before .before .before .before .before)) e j) ∙ c .before .before .before .before .before .before .if1 .taken in
     let w = c .before .before .walk .ensures e (judge-walkable j y) in
-    judge-tree j y (record { long = w .long; other = w .other }) (w .row ∙ kept-whole (firstRow e (c .before .before .before .before .before .before .before .before .before .before .before .before .args .text .now)) (c .before .before .before .before .before .before .before .before .before .before .before .before .args .tree .now) (judge-fits j y (c .before .before .before .before .before .room-for .ensures) (c .before .before .before .before .if2 .taken)))
+    judge-tree j y (w .measures) (w .row ∙ kept-whole (firstRow e (c .before .before .before .before .before .before .before .before .before .before .before .before .args .text .now)) (c .before .before .before .before .before .before .before .before .before .before .before .before .args .tree .now) (judge-fits j y (c .before .before .before .before .before .room-for .ensures) (c .before .before .before .before .if2 .taken)))
 
 measure-requires : tie.Need-measure-requires
 measure-requires c κs = let j = c .before .before .before .before .before .before .before .before .pre .0 .judgeable in (record { e = c .before .before .before .before .before .before .before .before .pre .0 .e; walkable = judge-walkable j (sym (asked ((c .before .before .before)) _ j) ∙ c .before .before .if1 .taken) }, c .before .before .before .before .before .before .before .before .pre .1 .0)

@@ -10,7 +10,7 @@ walk-requires : tie.Need-walk-requires
 walk-requires c κs = search needs
 
 returns : tie.Need-returns
-returns c = λ e w. let m = c .before .walk .ensures e w in record { long = m .long; other = m .other }
+returns c = λ e w. c .before .walk .ensures e w .measures
 
 pub measure-spec : {M : Type 1} → statement M
 measure-spec = tie.close (tie.spec slice-aggregate-walk walk-requires returns)

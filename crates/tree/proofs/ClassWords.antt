@@ -1,29 +1,29 @@
 -- A position reads the bytes that its four words name. Assumes nothing.
 use mathlib.Core.Path.{_≡_, refl, sym, _∙_, ap}
-use mathlib.Core.Bool.{Bool, true, false, cond}
+use mathlib.Core.Bool.{Bool, true, false, cond, _&&_}
 use mathlib.Core.List.{List, _++_}
-use Prim.Native.Nat.{ℕ, zero, suc, _+_, _-_, _*_, _/_, _%_, _≤_, _<_}
+use Prim.Native.Nat.{ℕ, zero, suc, _+_, _*_, _/_, _%_, _≤_, _<_}
 use native.Mathlib.Omega.{arith}
 use borrow.Author.Tests.{ltb-true, ltb-false, eq-eqb}
 use lib.Dec.{ltb}
 use lib.ListN.{getD}
 use Rattle.meaning.specs.Expression.{Re, eps, pos, cat, alt, branch, star, plus, opt, size}
-use Rattle.meaning.specs.ReadPattern as meaning
 use Rattle.meaning.specs.ReadPattern.{words, word}
 use Rattle.positions.specs.Places.{In}
 use Rattle.positions.specs.Sets.{reads-in}
 use Rattle.positions.specs.Tests.{reads}
-use Rattle.laws.specs.Holds.{Stands, stands-left, stands-right, stands-at}
+use Rattle.grammar.specs.Holds.{Stands, stands-left, stands-right, stands-at, length-words}
 use Rattle.bits.specs.Bit.{bit}
-use Rattle.bits.proofs.Bits.{bit-binary}
-use Rattle.pattern.proofs.Rows.{length-words}
+use Rattle.passes.specs.Masks.{classed}
+use Rattle.sets.specs.Classes.{among}
+use Rattle.sets.proofs.ClassLaws.{word-class}
 
 -- byte b is in the words of position q
-abbrev pub in-class : List ℕ → ℕ → ℕ → Bool
+abbrev in-class : List ℕ → ℕ → ℕ → Bool
 in-class class q b = bit 64 (getD class (4 * q + b / 64) 0) (b % 64)
 
 -- no position outside e reads
-pub reads-out : (p : ℕ) (e : Re) (q b : ℕ) → (In p e q → ⊥) → reads p e q b ≡ false
+reads-out : (p : ℕ) (e : Re) (q b : ℕ) → (In p e q → ⊥) → reads p e q b ≡ false
 reads-out p e q b h = go (reads p e q b) refl
   where
     go : (t : Bool) → reads p e q b ≡ t → t ≡ false
@@ -40,9 +40,8 @@ words-at c (suc (suc (suc zero))) l = refl
 words-at c (suc (suc (suc (suc i)))) l = absurd (omega arith)
 
 words-say : (c : ℕ → Bool) (b : ℕ) → b < 256 → bit 64 (getD (words (pos c)) (b / 64) 0) (b % 64) ≡ c b
-words-say c b l =
-    let e : 64 * (b / 64) + b % 64 ≡ b = omega arith in
-    ap (λ (x : ℕ). bit 64 x (b % 64)) (words-at c (b / 64) (omega arith)) ∙ bit-binary 64 (λ j. c (64 * (b / 64) + j)) (b % 64) (omega arith) ∙ ap c e
+unfolding among
+words-say c b l = word-class (record { words = words (pos c) }) c (words-at c) b l
 
 module _ (ws : List ℕ) (b : ℕ) (l : b < 256) where
   -- two parts, of which q is in one
@@ -58,7 +57,7 @@ module _ (ws : List ℕ) (b : ℕ) (l : b < 256) where
           g (stands-at (4 * (p + size x)) (stands-right (words x) (words y) h) (omega (arith, length-words x)))
           (ltb-false q (p + size x) e, omega (arith, i))
 
-  pub reads-its-words : (p : ℕ) (e : Re) (q : ℕ) → Stands (words e) ws (4 * p) → In p e q → reads p e q b ≡ in-class ws q b
+  reads-its-words : (p : ℕ) (e : Re) (q : ℕ) → Stands (words e) ws (4 * p) → In p e q → reads p e q b ≡ in-class ws q b
   unfolding reads size words
   reads-its-words p eps q h i = absurd (omega (arith, i))
   reads-its-words p (pos c) q h i =
@@ -70,3 +69,12 @@ module _ (ws : List ℕ) (b : ℕ) (l : b < 256) where
   reads-its-words p (star x) q h i = reads-its-words p x q h i
   reads-its-words p (plus x) q h i = reads-its-words p x q h i
   reads-its-words p (opt x) q h i = reads-its-words p x q h i
+
+-- where the words of e stand, whether a position reads a byte is told by its four words
+pub reads-classed : (e : Re) {ws : List ℕ} {n : ℕ} → Stands (words e) ws 0 → n ≡ size e → (q b : ℕ) → b < 256 → reads 0 e q b ≡ classed ws n q b
+unfolding classed
+reads-classed e {ws} {n} h z q b l = rw z (go (ltb q (size e)) refl)
+  where
+    go : (t : Bool) → ltb q (size e) ≡ t → reads 0 e q b ≡ (t && in-class ws q b)
+    go true i = reads-its-words ws b l 0 e q h (omega arith, omega (arith, ltb-true q (size e) i))
+    go false i = reads-out 0 e q b (λ o. omega (arith, o, ltb-false q (size e) i))

@@ -2,13 +2,13 @@
 use mathlib.Core.Path.{_≡_, refl, sym, _∙_, ap}
 use mathlib.Core.Bool.{Bool}
 use mathlib.Core.List.{List, [], _∷_, _++_}
-use Prim.Native.Nat.{ℕ, suc, _+_, _-_, _<_, _≤_}
+use Prim.Native.Nat.{ℕ, suc, _+_, _-_, _*_, _<_, _≤_}
 use native.Mathlib.Omega.{arith}
 use native.Mathlib.Nat.{zero-add}
 use lib.ListN.{length, getD, length-append, replicate, length-replicate, List·getD-append}
 use lib.Seq.{getD-append-add}
 use Rattle.meaning.specs.Expression.{Re, eps, pos, cat, alt, branch, star, plus, opt, marks, size}
-use Rattle.meaning.specs.ReadPattern.{nodes, kinds, args, node-of, padded, read-pattern}
+use Rattle.meaning.specs.ReadPattern.{nodes, kinds, args, words, node-of, padded, read-pattern}
 
 -- node i is of kind k, and within both rows
 pub record Node (ks gs : List ℕ) (i k : ℕ) : Type 0 where
@@ -105,6 +105,17 @@ args-length k m p (branch x) = simp length-append (omega (arith, args-length k (
 args-length k m p (star x) = simp length-append (omega (arith, args-length k (suc m) p x))
 args-length k m p (plus x) = simp length-append (omega (arith, args-length k (suc m) p x))
 args-length k m p (opt x) = simp length-append (omega (arith, args-length k (suc m) p x))
+
+pub length-words : (e : Re) → length (words e) ≡ 4 * size e
+unfolding words size
+length-words eps = refl
+length-words (pos c) = refl
+length-words (cat x y) = let h = length-words x in let g = length-words y in simp length-append (omega arith)
+length-words (alt x y) = let h = length-words x in let g = length-words y in simp length-append (omega arith)
+length-words (branch x) = length-words x
+length-words (star x) = length-words x
+length-words (plus x) = length-words x
+length-words (opt x) = length-words x
 
 -- the rows of two parts and their node
 module _ {ks gs : List ℕ} (k m p c i : ℕ) (x y : Re) (e : i ≡ k + (nodes x + nodes y))

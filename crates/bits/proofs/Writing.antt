@@ -3,9 +3,9 @@ use mathlib.Core.Path.{_≡_, refl, ap, _∙_}
 use mathlib.Core.List.{List, [], _∷_, _++_}
 use Prim.Native.Nat.{ℕ, zero, suc, _+_, _≤_, _<_}
 use native.Mathlib.Omega.{arith}
-use native.Mathlib.Nat.{add-zero}
-use lib.ListN.{length, getD, set, length-set}
-use lib.Seq.{sets, getD-set-same, getD-set-other}
+use native.Mathlib.Nat.{zero-add, add-zero}
+use lib.ListN.{length, drop, getD, set, length-set}
+use lib.Seq.{sets, sets-eq, getD-set-same, getD-set-other}
 
 -- two rows, one behind the other
 pub sets-then : (t : List ℕ) (a : ℕ) (r s : List ℕ) → sets (sets t a r) (a + length r) s ≡ sets t a (r ++ s)
@@ -13,6 +13,10 @@ sets-then t a [] s = ap (λ (k : ℕ). sets t k s) (add-zero a)
 sets-then t a (v ∷ r) s =
     let e : a + suc (length r) ≡ suc a + length r = omega arith in
     ap (λ (k : ℕ). sets (sets (set t a v) (suc a) r) k s) e ∙ sets-then (set t a v) (suc a) r s
+
+-- from the front on, where there is room
+pub sets-front : (t r : List ℕ) → length r ≤ length t → sets t 0 r ≡ r ++ drop (length r) t
+sets-front t r h = sets-eq r t 0 (omega arith) ∙ ap (λ (k : ℕ). r ++ drop k t) (zero-add (length r))
 
 -- before the row, in it as far as it fits, and behind it
 pub sets-before : (t : List ℕ) (a : ℕ) (r : List ℕ) (i : ℕ) → i < a → getD (sets t a r) i 0 ≡ getD t i 0
