@@ -22,7 +22,7 @@ use Rattle.walks.specs.declared.step.Step.the-variants.{Passed, Stopped}
 use Rattle.walks.specs.Steps.{cursor, Wrote}
 use Rattle.walks.proofs.Written.{wrote-cursor}
 use Rattle.walks.specs.Tables.{flag}
-use Rattle.along.specs.Links.{Link, LinkAt, four, PlaceOf, Kept, Keeps}
+use Rattle.along.specs.Links.{Link, LinkAt, four, PlaceOf, PlaceFor, Kept, Keeps}
 use Rattle.along.specs.Rows.{Below}
 use Rattle.along.proofs.Along.{apart}
 use Rattle.along.proofs.Standing.{written-below, written-shows, shows-still}
@@ -112,6 +112,9 @@ link-off l s s′ a b c d n L =
       four-other l s (4 * s′ + 3) a b c d (λ z. omega arith) (λ z. omega arith) (λ z. omega arith) (λ z. n (omega arith)),
     )
     L
+
+pub place-of : {j s : ℕ} {goal : Set} → PlaceFor j goal s → PlaceOf j s
+place-of P = record { from = omega (arith, P .place); below = omega (arith, P .place) }
 
 -- one more link, which is asked for where the goal has a member
 kept-new : {e : Re} {keys keys′ links t : List ℕ} {m : ℕ} {goal : Set} (j s a b c d : ℕ) → Kept e keys links t m → PlaceOf j s → 4 * s + 3 < length links → Stored goal s keys keys′

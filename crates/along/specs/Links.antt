@@ -3,7 +3,7 @@
 use mathlib.Core.Path.{_≡_}
 use mathlib.Core.Bool.{Bool, true, false}
 use mathlib.Core.List.{List}
-use Prim.Native.Nat.{ℕ, _+_, _*_, _-_, _≤_, _<_}
+use Prim.Native.Nat.{ℕ, _+_, _*_, _-_, _%_, _≤_, _<_}
 use lib.ListN.{length, getD, set}
 use Rattle.meaning.specs.Expression.{Re, marks, size}
 use Rattle.grammar.specs.Fair.{Fair}
@@ -11,7 +11,7 @@ use Rattle.laws.specs.Holds.{Holds}
 use Rattle.positions.specs.Positions.{at}
 use Rattle.positions.specs.Runs.{Run, rowOf, outOf, otherOf, resumeRun}
 use Rattle.sets.specs.declared.set.Set.{Set}
-use Rattle.sets.specs.Members.{has, limit, row, rows, Stored}
+use Rattle.sets.specs.Members.{has, limit, row, rows, Least, Stored}
 use Rattle.walks.specs.declared.step.Step.{Step}
 use Rattle.walks.specs.declared.step.Step.the-variants.{Passed, Stopped}
 use Rattle.walks.specs.Resume.{Placed}
@@ -38,6 +38,12 @@ four links s to from long other = set (set (set (set links (4 * s) to) (4 * s + 
 pub record PlaceOf (j s : ℕ) : Type 0 where
   pub from : 4 * j ≤ s
   pub below : s < 4 * j + 4
+
+-- s is the one of them for the way on from j to the goal: by the goal's least member
+pub record PlaceFor (j : ℕ) (goal : Set) (s : ℕ) : Type 0 where
+  pub member : ℕ
+  pub least : Least goal member
+  pub place : s ≡ 4 * j + member % 4
 
 -- each place of position j whose goal has a member keeps the run from j to that goal
 pub record Kept (e : Re) (keys links t : List ℕ) (c : ℕ) : Type 0 where

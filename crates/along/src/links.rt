@@ -5,7 +5,7 @@ ghost use lib.ListN.{length};
 ghost use Rattle.sets.specs.Members.{limit, rows};
 ghost use Rattle.walks.specs.Steps.{cursor};
 ghost use Rattle.walks.specs.Tables.{flag};
-ghost use Rattle.along.specs.Links.{Keeps, Linked, PlaceOf, Went};
+ghost use Rattle.along.specs.Links.{Keeps, Linked, PlaceFor, Went};
 ghost use Rattle.along.specs.Walk.{Charted};
 use sets::set::Set;
 use walks::resume::resume;
@@ -14,7 +14,7 @@ use walks::step::Step;
 // Where the way on from position q to the goal is kept: at one of four places, by the goal's least member, which is known before q is.
 pub fn kept_at(q: usize, goal: Set) -> usize
     requires { ⌜ q < limit ⌝ }
-    ensures { λ r. ⌜ PlaceOf q r ⌝ }
+    ensures { λ r. ⌜ PlaceFor q goal r ⌝ }
 {
     4 * q + goal.first() % 4
 }
