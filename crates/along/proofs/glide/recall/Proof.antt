@@ -59,7 +59,13 @@ same-length : tie.Need-same-length
 same-length c = search needs
 
 returns : tie.Need-returns
-returns c = recalled (c .before .before .before .before .before .before .before .before .before .before .before .before .before .before .args .links .now) (c .before .before .before .before .before .before .before .before .before .before .before .before .before .before .args .tree .now) (c .before .before .before .before .before .before .before .before .before .before .before .before .before .before .args .p) (c .before .before .before .before .before .before .before .before .before .before .before .before .before .before .args .b) (c .before .before .before .before .before .before .before .before .before .before .before .before .before .before .args .s) (c .before .before .before .before .before .before .before .letter .ensures .1) (c .before .before .before .before .before .before .before .letter .ensures .0) (c .before .before .before .lay .ensures) (c .before .before .before .before .before .before .before .before .before .before .before .before .before .before .pre .past) refl refl refl (⊎-elim (λ x. x .1 ∙ or-yes _ (x .0 .taken)) (λ x. x .2 ∙ or-no _ (x .0 .left)) (c .before .before .before .before .before .before .before .before .before .if1 .came))
+returns c =
+    let laid = c .before .before .before in
+    let lettered = laid .before .before .before .before in
+    let letter = lettered .letter .ensures in
+    let asked = lettered .before .before .before .before .before .before .before .args in
+    recalled (asked .links .now) (asked .tree .now) (asked .p) (asked .b) (asked .s) (letter .1) (letter .0) (laid .lay .ensures) (lettered .before .before .before .before .before .before .before .pre .past) refl refl refl
+    (⊎-elim (λ x. x .1 ∙ or-yes _ (x .0 .taken)) (λ x. x .2 ∙ or-no _ (x .0 .left)) (lettered .before .before .if1 .came))
 
 pub recall-spec : {M : Type 1} → statement M
 recall-spec =

@@ -2,7 +2,7 @@
 -- and the memo is right. Assumes nothing.
 use mathlib.Core.Path.{_≡_, refl, _∙_}
 use mathlib.Core.List.{List}
-use Prim.Native.Nat.{ℕ, _-_, _<_}
+use Prim.Native.Nat.{ℕ, _-_, _≤_, _<_}
 use native.Mathlib.Omega.{arith}
 use lib.ListN.{length}
 use Rattle.sets.specs.declared.set.Set.{Set}
@@ -33,7 +33,10 @@ unfolding rows
 same-length c = c .before .before .before .store .ensures .same-rows
 
 returns : tie.Need-returns Inv-loop μ-loop
-returns c = going-all _ _ _ _ _ _ _ (c .before .before .before .before .before .empty .ensures) (c .before .before .before .store .ensures) _ _ _ (going-none _ _ _ _ _ _ _ (c .before .before .before .before .before .empty .ensures) (c .before .before .before .store .ensures)) (omega arith)
+returns c =
+    let stored = c .before .before .before .store .ensures in
+    let none = c .before .before .before .before .before .empty .ensures in
+    going-all _ _ _ _ _ _ _ none stored _ _ _ (going-none _ _ _ _ _ _ _ none stored) (omega arith)
 
 reverse-requires : tie.Need-reverse-requires Inv-loop μ-loop
 unfolding rows
@@ -49,7 +52,7 @@ cast-load : tie.Need-cast-load Inv-loop μ-loop
 cast-load c = omega (arith, c .shared-slice-known4 .given (length (c .before .before .before .before .before .before .before .before .before .before .before .before .before .args .text .now) - 1))
 
 load-requires : tie.Need-load-requires Inv-loop μ-loop
-load-requires c κs = omega (arith, c .before .before .before .before .before .before .before .before .before .before .before .before .before .pre, c .shared-slice-known4 .given (length (c .before .before .before .before .before .before .before .before .before .before .before .before .before .args .text .now) - 1))
+load-requires c κs = let entry = c .before .before .before .before .before .before .before .before .before .before .before .before .before in omega (arith, entry .pre, c .shared-slice-known4 .given (length (entry .args .text .now) - 1))
 
 meet-requires : tie.Need-meet-requires Inv-loop μ-loop
 meet-requires c κs = tt
@@ -73,37 +76,65 @@ shared-slice-read-recall c = omega (arith, c .before .before .before .before .be
 
 recall-requires : tie.Need-recall-requires Inv-loop μ-loop
 unfolding rows
-recall-requires c κs = (c .before .before .before .before .before .before .before .before .before .before .before .before .before .before .before .before .before .before .before .before .before .before .before .before .before .pre .0, omega (arith, c .before .before .before .before .before .before .before .before .before .before .before .before .before .reverse .ensures .same-rows), c .before .before .before .before .before .loop .inv .2)
+recall-requires c κs =
+    let here = c .before .before .before .before .before in
+    let reversed = here .before .before .before .before .before .before .before .before in
+    (reversed .before .before .before .before .before .before .before .before .before .before .before .before .pre .0, omega (arith, reversed .reverse .ensures .same-rows), here .loop .inv .2)
+
+-- as many cells as there were
+same-cells : (c : tie.At-loop Inv-loop μ-loop) → rows (c .loop .cells) ≡ rows (c .before .before .before .before .before .before .before .before .before .before .before .before .before .before .before .before .before .before .before .before .args .cells .now)
+same-cells c = c .loop .inv .1 ∙ c .before .before .before .store2 .ensures .same-rows ∙ c .before .before .before .before .before .before .before .before .before .before .before .before .before .store .ensures .same-rows
 
 store-requires-3 : tie.Need-store-requires-3 Inv-loop μ-loop
-store-requires-3 c κs = omega (arith, c .before .before .before .before .before .before .before .before .before .before .before .before .before .before .before .before .before .before .before .before .before .before .before .before .before .before .before .pre .2, c .before .before .before .before .before .before .before .loop .inv .0, c .before .before .before .before .before .before .before .loop .inv .1, c .before .before .before .before .before .before .before .before .before .before .before .before .before .before .before .before .before .before .before .before .store .ensures .same-rows, c .before .before .before .before .before .before .before .before .before .before .store2 .ensures .same-rows)
+store-requires-3 c κs = let here = c .before .before .before .before .before .before .before in omega (arith, here .before .before .before .before .before .before .before .before .before .before .before .before .before .before .before .before .before .before .before .before .pre .2, here .loop .inv .0, same-cells here)
 
 loop-less : tie.Need-loop-less Inv-loop μ-loop
 loop-less c = omega arith
 
+-- a byte is left
+more : (c : tie.In-loop Inv-loop μ-loop) → 0 < c .before .loop .i
+more c = omega arith
+
 loop-again : tie.Need-loop-again Inv-loop μ-loop
 loop-again c =
-    let l = c .before .before .before .before .before .before .before .before .before .before .loop in
-    let found = c .before .before .before .before .recall in (
-      omega (arith, l .inv .0),
-      c .before .before .store3 .ensures .same-rows ∙ l .inv .1,
-      found .ensures .memo,
+    let kept = c .before .before .store3 .ensures in
+    let found = c .before .before .before .before in
+    let here = found .before .before .before .before .before .before in
+    let turn = here .loop in
+    let left = more (found .before .before .before .before .before) in
+    let reversed = here .before .before .before .before .before .before .before .before .reverse .ensures in (
+      omega (arith, turn .inv .0),
+      kept .same-rows ∙ turn .inv .1,
+      found .recall .ensures .memo,
       λ ends k G.
-          going-more _ _ _ _ _ (l .cells) _ (l .next) (found .result) (l .i) (l .inv .3 ends k G) (omega arith)
-          (made-more _ _ _ _ _ _ (l .next) _ _ (l .i) (zeros-empty 64) (c .before .before .before .before .before .before .before .before .before .before .before .before .before .before .before .before .before .before .reverse .ensures) (l .inv .0) (found .ensures .found)) (c .before .before .store3 .ensures),
+          going-more _ _ _ _ _ (turn .cells) _ (turn .next) (found .recall .result) (turn .i) (turn .inv .3 ends k G) left
+          (made-more _ _ _ _ _ _ (turn .next) _ _ (turn .i) (zeros-empty 64) reversed (turn .inv .0) (found .recall .ensures .found)) kept,
     )
 
 same-length-2 : tie.Need-same-length-2 Inv-loop μ-loop
 unfolding rows
-same-length-2 c = c .before .loop .inv .1 ∙ c .before .before .before .before .store2 .ensures .same-rows ∙ c .before .before .before .before .before .before .before .before .before .before .before .before .before .before .store .ensures .same-rows
+same-length-2 c = same-cells (c .before)
+
+-- there is a last byte
+some : (c : tie.Else1 Inv-loop μ-loop) → 0 < length (c .before .before .before .before .before .before .before .before .before .before .args .text .now)
+some c = omega arith
+
+-- and the loop ends before the first
+done : (c : tie.After-loop Inv-loop μ-loop) → c .before .loop .i ≤ 0
+done c = omega arith
 
 returns-2 : tie.Need-returns-2 Inv-loop μ-loop
 returns-2 c =
-    let none = c .before .before .before .before .before .before .before .before .before .before .before .before .before .before .before .before .empty in
-    let end = c .before .before .before .before .before .before .before .before .before .before .before .before .before .before .store in
-    going-all _ _ _ _ _ _ _ (none .ensures) (end .ensures) _ _ _
-    (c .before .loop .inv .3 _ _ (going-last _ _ _ _ _ _ _ (none .ensures) (end .ensures) _ _ _ (omega arith) (c .before .before .before .before .before .before .before .load .ensures) (c .before .before .before .before .before .before .meet .ensures) (c .before .before .before .before .store2 .ensures)))
-    (omega arith)
+    let here = c .before in
+    let first = here .before .before .before in
+    let load = first .before .before .before .load .ensures in
+    let meet = first .before .before .meet .ensures in
+    let begun = first .before .before .before .before .before .before .before in
+    let stored = begun .before .before .before .store .ensures in
+    let none = begun .before .before .before .before .before .empty .ensures in
+    going-all _ _ _ _ _ _ _ none stored _ _ _
+    (here .loop .inv .3 _ _ (going-last _ _ _ _ _ _ _ none stored _ _ _ (some begun) load meet (first .store2 .ensures)))
+    (done c)
 
 pub backward-spec : {M : Type 1} → statement M
 backward-spec =
