@@ -99,8 +99,7 @@ loop-again c =
     let gone = glided .glide .ensures in
     let here = glided .before .before .before .before .before .before in
     let came-to = here .loop .inv in
-    let left = more (glided .before .before .before .before .before) in
-    (
+    let left = more (glided .before .before .before .before .before) in (
       omega (arith, gone .left),
       λ e w a.
           let x = walk-glided w (entry (here .before) .pre .1) (came-to .1 e w a) left (glided .before .stand .ensures) gone in

@@ -22,6 +22,13 @@ Inv-loop text mask follow cells₀ n pre keys₀ sets₀ i₀ next₀ cells keys
 abbrev μ-loop : tie.MeasureT-loop
 μ-loop text mask follow cells₀ n pre keys₀ sets₀ i₀ next₀ cells keys sets i next = i
 
+-- before the loop: there is a byte, and what is asked
+abbrev begun : tie.At-loop Inv-loop μ-loop → tie.Else1 Inv-loop μ-loop
+begun c = c .before .before .before .before .before .before .before .before .before .before
+
+abbrev entry : tie.Else1 Inv-loop μ-loop → tie.Start Inv-loop μ-loop
+entry c = c .before .before .before .before .before .before .before .before .before .before
+
 empty-requires : tie.Need-empty-requires Inv-loop μ-loop
 empty-requires c κs = tt
 
@@ -52,7 +59,9 @@ cast-load : tie.Need-cast-load Inv-loop μ-loop
 cast-load c = omega (arith, c .shared-slice-known4 .given (length (c .before .before .before .before .before .before .before .before .before .before .before .before .before .args .text .now) - 1))
 
 load-requires : tie.Need-load-requires Inv-loop μ-loop
-load-requires c κs = let entry = c .before .before .before .before .before .before .before .before .before .before .before .before .before in omega (arith, entry .pre, c .shared-slice-known4 .given (length (entry .args .text .now) - 1))
+load-requires c κs =
+    let asked = c .before .before .before .before .before .before .before .before .before .before .before .before .before in
+    omega (arith, asked .pre, c .shared-slice-known4 .given (length (asked .args .text .now) - 1))
 
 meet-requires : tie.Need-meet-requires Inv-loop μ-loop
 meet-requires c κs = tt
@@ -78,15 +87,18 @@ recall-requires : tie.Need-recall-requires Inv-loop μ-loop
 unfolding rows
 recall-requires c κs =
     let here = c .before .before .before .before .before in
-    let reversed = here .before .before .before .before .before .before .before .before in
-    (reversed .before .before .before .before .before .before .before .before .before .before .before .before .pre .0, omega (arith, reversed .reverse .ensures .same-rows), here .loop .inv .2)
+    (entry (begun here) .pre .0, omega (arith, here .before .before .before .before .before .before .before .before .reverse .ensures .same-rows), here .loop .inv .2)
 
 -- as many cells as there were
-same-cells : (c : tie.At-loop Inv-loop μ-loop) → rows (c .loop .cells) ≡ rows (c .before .before .before .before .before .before .before .before .before .before .before .before .before .before .before .before .before .before .before .before .args .cells .now)
-same-cells c = c .loop .inv .1 ∙ c .before .before .before .store2 .ensures .same-rows ∙ c .before .before .before .before .before .before .before .before .before .before .before .before .before .store .ensures .same-rows
+same-cells : (c : tie.At-loop Inv-loop μ-loop) → rows (c .loop .cells) ≡ rows (entry (begun c) .args .cells .now)
+same-cells c =
+    let first = c .before .before .before in
+    c .loop .inv .1 ∙ first .store2 .ensures .same-rows ∙ first .before .before .before .before .before .before .before .before .before .before .store .ensures .same-rows
 
 store-requires-3 : tie.Need-store-requires-3 Inv-loop μ-loop
-store-requires-3 c κs = let here = c .before .before .before .before .before .before .before in omega (arith, here .before .before .before .before .before .before .before .before .before .before .before .before .before .before .before .before .before .before .before .before .pre .2, here .loop .inv .0, same-cells here)
+store-requires-3 c κs =
+    let here = c .before .before .before .before .before .before .before in
+    omega (arith, entry (begun here) .pre .2, here .loop .inv .0, same-cells here)
 
 loop-less : tie.Need-loop-less Inv-loop μ-loop
 loop-less c = omega arith
@@ -116,7 +128,7 @@ unfolding rows
 same-length-2 c = same-cells (c .before)
 
 -- there is a last byte
-some : (c : tie.Else1 Inv-loop μ-loop) → 0 < length (c .before .before .before .before .before .before .before .before .before .before .args .text .now)
+some : (c : tie.Else1 Inv-loop μ-loop) → 0 < length (entry c .args .text .now)
 some c = omega arith
 
 -- and the loop ends before the first
@@ -127,13 +139,10 @@ returns-2 : tie.Need-returns-2 Inv-loop μ-loop
 returns-2 c =
     let here = c .before in
     let first = here .before .before .before in
-    let load = first .before .before .before .load .ensures in
-    let meet = first .before .before .meet .ensures in
-    let begun = first .before .before .before .before .before .before .before in
-    let stored = begun .before .before .before .store .ensures in
-    let none = begun .before .before .before .before .before .empty .ensures in
+    let stored = first .before .before .before .before .before .before .before .before .before .before .store .ensures in
+    let none = first .before .before .before .before .before .before .before .before .before .before .before .before .empty .ensures in
     going-all _ _ _ _ _ _ _ none stored _ _ _
-    (here .loop .inv .3 _ _ (going-last _ _ _ _ _ _ _ none stored _ _ _ (some begun) load meet (first .store2 .ensures)))
+    (here .loop .inv .3 _ _ (going-last _ _ _ _ _ _ _ none stored _ _ _ (some (begun here)) (first .before .before .before .load .ensures) (first .before .before .meet .ensures) (first .store2 .ensures)))
     (done c)
 
 pub backward-spec : {M : Type 1} → statement M

@@ -57,8 +57,9 @@ loop-again c =
     let stored = c .before .before in
     let turn = stored .before .before .before .before .before .before .loop in
     let asked = stored .before .before .before .before .before .before .before .before .args in
-    let more = noted-more (turn .left) (asked .w) (omega arith) (omega arith) (asked .q) _ _ _ _ (stored .before .before .before .load .ensures) (stored .before .before .with .ensures) (stored .store .ensures) in
-    (stored .store .ensures .same-rows ∙ turn .inv .0, omega (arith, lowest-less (turn .left) (omega arith)), λ b p. more b p ∙ turn .inv .2 b p)
+    let kept = stored .store .ensures in
+    let more = noted-more (turn .left) (asked .w) (omega arith) (omega arith) (asked .q) _ _ _ _ (stored .before .before .before .load .ensures) (stored .before .before .with .ensures) kept in
+    (kept .same-rows ∙ turn .inv .0, omega (arith, lowest-less (turn .left) (omega arith)), λ b p. more b p ∙ turn .inv .2 b p)
 
 same-length : tie.Need-same-length Inv-loop μ-loop
 unfolding rows

@@ -54,7 +54,9 @@ returns c =
     let turn = read .before .before .before .before .loop in
     let asked = read .before .before .before .before .before .before .before .before .args in
     let none = sym (c .before .is-empty .ensures) ∙ c .if1 .taken in
-    let stops = readable-stops (asked .mask .now) (asked .follow .now) (asked .text .now) (has (turn .next)) (turn .i) (inside (read .before .before .before)) (read .meet .result) (reading read) none in
+    let stops =
+    readable-stops (asked .mask .now) (asked .follow .now) (asked .text .now) (has (turn .next)) (turn .i) (inside (read .before .before .before)) (read .meet .result)
+    (reading read) none in
     sym (turn .inv .1 ∙ ap (λ (n : ℕ). turn .i + n) stops ∙ add-zero _)
 
 after-requires : tie.Need-after-requires Inv-loop μ-loop

@@ -44,7 +44,8 @@ loop-again : tie.Need-loop-again Inv-loop μ-loop
 loop-again c =
     let stored = c .before .before in
     let turn = stored .before .before .before .before .before .before in
-    joining-more _ _ _ _ _ (turn .before .loop .inv) (turn .loop-test .taken) (stored .before .before .before .load .ensures) (stored .before .before .with .ensures) (stored .store .ensures) (c .before .without .ensures) (c .first2 .ensures)
+    joining-more _ _ _ _ _ (turn .before .loop .inv) (turn .loop-test .taken) (stored .before .before .before .load .ensures) (stored .before .before .with .ensures) (stored .store .ensures)
+    (c .before .without .ensures) (c .first2 .ensures)
 
 returns : tie.Need-returns Inv-loop μ-loop
 returns c = joining-all _ _ _ (c .before .loop .inv) (omega arith)
