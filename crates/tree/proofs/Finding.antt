@@ -50,7 +50,8 @@ module _ {e : Re} {ks gs cs : List ℕ} {root n k : ℕ} (G : Given e ks gs cs r
       beginning = λ q. T .scanned .first root (omega arith) .has-firsts e 0 0 (G .holds) q;
     }
 
-    pub judgeable : {text l m : List ℕ} → Backed mask ts last text l m → ((i : ℕ) → Fits w8 (getD text i 0)) → length text ≤ text-limit → length text < rows l → Judgeable e ks gs fs mask ts root k text m
+    pub judgeable : {text l m : List ℕ} → Backed mask ts last text l m → ((i : ℕ) → Fits w8 (getD text i 0))
+        → length text ≤ text-limit → length text < rows l → Judgeable e ks gs fs mask ts root k text m
     judgeable {text} {l} {m} B b s h = record {
       holds = G .holds;
       within = G .within;

@@ -35,9 +35,9 @@ entry c = c .before .before .before .before .before
 
 -- the walk that is asked for has come here
 came : (c : Turns)
-    → let asked = entry c in
+    → let asked = entry c .args in
     let now = c .before .loop in
-    Came (asked .pre .e) (asked .args .text .now) (asked .args .keys .now) (asked .args .links .now) (asked .args .tree .now) (now .tree) (stood (asked .args .s)) (stood (now .s)) (asked .args .s .read) (now .s .read)
+    Came (entry c .pre .e) (asked .text .now) (asked .keys .now) (asked .links .now) (asked .tree .now) (now .tree) (stood (asked .s)) (stood (now .s)) (asked .s .read) (now .s .read)
 came c = let asked = entry c .pre in c .before .loop .inv .2 (asked .e) (asked .guided) (asked .along) (asked .kept)
 
 -- the position where it stands
@@ -63,7 +63,9 @@ kept-at-requires : tie.Need-kept-at-requires Inv-loop μ-loop
 kept-at-requires c κs = inside (c .before .before .before .before .before)
 
 load-requires-3 : tie.Need-load-requires-3 Inv-loop μ-loop
-load-requires-3 c κs = let here = c .before .before .before .before .before .before .before in omega (arith, entry here .pre .all-keys, place-of (c .before .kept-at .ensures) .below, inside here)
+load-requires-3 c κs =
+    let here = c .before .before .before .before .before .before .before in
+    omega (arith, entry here .pre .all-keys, place-of (c .before .kept-at .ensures) .below, inside here)
 
 same-requires : tie.Need-same-requires Inv-loop μ-loop
 same-requires c κs = tt
@@ -72,7 +74,9 @@ same-length : tie.Need-same-length Inv-loop μ-loop
 same-length c = came (c .before .before .before .before .before .before .before .before .before .before) .beyond .same-length
 
 returns : tie.Need-returns Inv-loop μ-loop
-returns c = let came-to = c .before .before .before .before .before .before .before .before .before .before .before .loop .inv in record { on = came-to .1; left = came-to .0; goes = came-to .2 }
+returns c =
+    let came-to = c .before .before .before .before .before .before .before .before .before .before .before .loop .inv in
+    record { on = came-to .1; left = came-to .0; goes = came-to .2 }
 
 shared-slice-read-recall : tie.Need-shared-slice-read-recall Inv-loop μ-loop
 shared-slice-read-recall c = omega arith
@@ -83,9 +87,12 @@ more c = omega arith
 
 -- the place has the same goal
 turn : (c : tie.Else2 Inv-loop μ-loop)
-    → let here = c .before .before .before .before .before .before .before .before .before .before in
+    → let place = c .before .before .before .before in
+    let near = place .before in
+    let goal = near .before .before .before in
+    let here = goal .before .before in
     let asked = entry here .args in
-    Turn (asked .cells .now) (asked .follow .now) (asked .keys .now) (here .before .loop .s) (c .before .before .before .before .before .before .before .before .load .result) (c .before .before .before .before .before .meet .result) (c .before .before .before .before .kept-at .result)
+    Turn (asked .cells .now) (asked .follow .now) (asked .keys .now) (here .before .loop .s) (goal .load .result) (near .meet .result) (place .kept-at .result)
 turn c =
     let place = c .before .before .before .before in
     let near = place .before in
@@ -127,7 +134,9 @@ same-length-2 : tie.Need-same-length-2 Inv-loop μ-loop
 same-length-2 c = came (c .before) .beyond .same-length
 
 returns-2 : tie.Need-returns-2 Inv-loop μ-loop
-returns-2 c = let came-to = c .before .before .loop .inv in record { on = came-to .1; left = came-to .0; goes = came-to .2 }
+returns-2 c =
+    let came-to = c .before .before .loop .inv in
+    record { on = came-to .1; left = came-to .0; goes = came-to .2 }
 
 pub glide-spec : {M : Type 1} → statement M
 glide-spec =

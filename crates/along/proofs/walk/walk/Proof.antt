@@ -76,7 +76,9 @@ glide-requires c κs =
     walk-glides w (asked .1) (came here _ w) (more (c .before .before .before .before)) (c .stand .ensures) (here .loop .inv .2)
 
 add-i : tie.Need-add-i Inv-loop μ-loop
-add-i c = omega (arith, c .before .before .before .glide .ensures .left, c .before .before .before .before .before .before .before .before .before .before .before .before .before .before .before .before .before .before .pre .0 .walkable .short)
+add-i c =
+    let start = c .before .before .before .before .before .before .before .before .before .before in
+    omega (arith, c .before .before .before .glide .ensures .left, entry start .pre .0 .walkable .short)
 
 advance-requires : tie.Need-advance-requires Inv-loop μ-loop
 advance-requires c κs =
@@ -90,7 +92,10 @@ advance-requires c κs =
     (record { linked = walk-linked w (gone .left) (x .along) (kept .2) (kept .3); left = gone .left; enough = w .enough }, asked .1)
 
 loop-less : tie.Need-loop-less Inv-loop μ-loop
-loop-less c = let glided = c .before .before .before .before .before .before .before .before .before in omega (arith, glided .before .stand .ensures .read, glided .glide .ensures .on, glided .glide .ensures .left)
+loop-less c =
+    let glided = c .before .before .before .before .before .before .before .before .before in
+    let gone = glided .glide .ensures in
+    omega (arith, glided .before .stand .ensures .read, gone .on, gone .left)
 
 loop-again : tie.Need-loop-again Inv-loop μ-loop
 loop-again c =

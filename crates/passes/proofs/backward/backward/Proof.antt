@@ -141,8 +141,9 @@ returns-2 c =
     let first = here .before .before .before in
     let stored = first .before .before .before .before .before .before .before .before .before .before .store .ensures in
     let none = first .before .before .before .before .before .before .before .before .before .before .before .before .empty .ensures in
+    let met = first .before .before in
     going-all _ _ _ _ _ _ _ none stored _ _ _
-    (here .loop .inv .3 _ _ (going-last _ _ _ _ _ _ _ none stored _ _ _ (some (begun here)) (first .before .before .before .load .ensures) (first .before .before .meet .ensures) (first .store2 .ensures)))
+    (here .loop .inv .3 _ _ (going-last _ _ _ _ _ _ _ none stored _ _ _ (some (begun here)) (met .before .load .ensures) (met .meet .ensures) (first .store2 .ensures)))
     (done c)
 
 pub backward-spec : {M : Type 1} → statement M

@@ -36,7 +36,10 @@ sub-root : tie.Need-sub-root
 sub-root c = some-node (c .before .before .before .before .before .before .before .before .before .before .shared-slice-known .given) (a-pattern (c .before))
 
 find-requires : tie.Need-find-requires
-find-requires c κs = (gives (c .before .before .before .before .before .before .before .before .before .before .before .before .before .before .before .before .shared-slice-known .given) (a-pattern (c .before .before .before .before .before .before .before)), (omega arith, omega arith))
+find-requires c κs =
+    let told = c .before .before .before .before .before .before .before in
+    let ready = in-order (told .before .before) in
+    (gives (told .before .before .before .before .before .before .before .before .before .shared-slice-known .given) (a-pattern told), (ready .short-text, omega (arith, ready .cells-enough)))
 
 enum-told-2 : tie.Need-enum-told-2
 enum-told-2 c = search needs
@@ -62,7 +65,8 @@ same-length-2 c = search needs
 returns-4 : tie.Need-returns-4
 returns-4 c =
     let told = c .before .before .before .before .before .before .before .before .before .before .before .before in
-    searched (told .before .before .before .before .before .before .before .before .before .shared-slice-known .given) (a-pattern told) (in-order (told .before .before)) (c .before .before .before .before .find .ensures)
+    let bytes = told .before .before .before .before .before .before .before .before .before .shared-slice-known .given in
+    searched bytes (a-pattern told) (in-order (told .before .before)) (c .before .before .before .before .find .ensures)
 
 returns-5 : tie.Need-returns-5
 returns-5 c = absurd (omega (arith, too-long (c .before .before .read .result) (c .before .before .read .ensures) (c .enum-told2 .given .1)))
