@@ -180,6 +180,15 @@ kept-none e n links t c = record { link = λ j s p i y. absurd (false≢true (sy
 
 -- ---- what `keep` does
 
+pub keeps-as : {s from : ℕ} {goal : Set} {u r : Step} {keys keys′ links links′ : List ℕ} → Keeps s goal from u r keys keys′ links links′ → Keeps s goal from r r keys keys′ links links′
+keeps-as K = record {
+  same-step = refl;
+  same-keys = K .same-keys;
+  same-links = K .same-links;
+  passed = λ c w z. K .passed c w (sym (K .same-step) ∙ z);
+  stopped = λ q c w z. K .stopped q c w (sym (K .same-step) ∙ z);
+}
+
 pub keeps-passed : {s at′ c : ℕ} {w : Bool} {goal : Set} {u : Step} {keys links : List ℕ} → u ≡ Passed c w → Keeps s goal at′ u (Passed c w) keys keys links links
 keeps-passed z = record { same-step = sym z; same-keys = refl; same-links = refl; passed = λ c w y. (refl, refl); stopped = λ q c w y. absurd (apart (sym z ∙ y)) }
 

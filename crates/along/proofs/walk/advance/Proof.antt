@@ -33,17 +33,18 @@ same-length c = search needs
 returns : tie.Need-returns
 returns c =
     let gone = c .before .before .before in
+    let went = gone .onward .ensures .0 in
     let goal = gone .before .before .before .before in
     let lettered = goal .before .before .before in
     let letter = lettered .letter .ensures in
     let asked = lettered .before .before .before .before .before .before .args in
     let left = lettered .before .before .before .before .before .before .pre .0 .left in
     record {
-      same-keys = gone .onward .ensures .same-keys;
-      same-links = gone .onward .ensures .same-links;
+      same-keys = went .same-keys;
+      same-links = went .same-links;
       goes = λ e w a k.
           let last = ended-at (asked .text .now) (asked .s .read + 1) (omega (arith, left)) in
-          walk-came w left a k (goal .load .ensures) last (letter .0) (letter .1) (gone .onward .ensures) (c .also .ensures);
+          walk-came w left a k (goal .load .ensures) last (letter .0) (letter .1) went (c .also .ensures);
     }
 
 pub advance-spec : {M : Type 1} → statement M

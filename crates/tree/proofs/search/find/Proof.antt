@@ -35,14 +35,14 @@ slice-aggregate-backward c = search needs
 
 slice-aggregate-backward-2 : tie.Need-slice-aggregate-backward-2
 unfolding rows
-slice-aggregate-backward-2 c = sym (c .before .before .before .before .before .tables .ensures .long)
+slice-aggregate-backward-2 c = sym (c .before .before .before .before .before .tables .ensures .0 .long)
 
 backward-requires : tie.Need-backward-requires
 unfolding rows
 backward-requires c κs =
     let masks = c .before .before .before .before in
     let tables = tabled masks in
-    (omega (arith, masks .masks .ensures .same-rows), omega (arith, tables .tables .ensures .long), entry tables .pre .1 .1)
+    (omega (arith, masks .masks .ensures .same-rows), omega (arith, tables .tables .ensures .0 .long), entry tables .pre .1 .1)
 
 judge-requires : tie.Need-judge-requires
 unfolding rows
@@ -50,7 +50,7 @@ judge-requires c κs =
     let cells = c .before .before .before .before .before .before .before .before .before in
     let masks = masked cells .masks .ensures in
     let filled = tabled (masked cells) in
-    let tables = filled .tables .ensures in
+    let tables = filled .tables .ensures .0 in
     let given = entry filled .pre in
     let bytes = filled .before .before .before .before .before .before .before .shared-slice-known .given in (
       record { e = given .0 .e; judgeable = judgeable (given .0 .given) tables masks (cells .backward .ensures) bytes (given .1 .0) (given .1 .1) },
@@ -78,7 +78,7 @@ returns c = λ e g.
     let filled = tabled (masked cells) in
     let given = entry filled .pre in
     let bytes = filled .before .before .before .before .before .before .before .shared-slice-known .given in
-    let j = judgeable g (filled .tables .ensures) (masked cells .masks .ensures) backed bytes (given .1 .0) (given .1 .1) in
+    let j = judgeable g (filled .tables .ensures .0) (masked cells .masks .ensures) backed bytes (given .1 .0) (given .1 .1) in
     finds (judged .judge .ensures e j) (cleared-cells backed (c .before .before .clear .ensures))
 
 pub find-spec : {M : Type 1} → statement M
