@@ -112,7 +112,7 @@ recall-requires c κs =
     let found = c .before .before in
     let here = found .before .before .before .before .before .before .before .before .before .before in
     let x = came here in
-    glide-recalls (entry here .pre .guided) (x .along) (turn found) (more (c .before .before .before .before .before .before .before .before .before .before .before)) (x .kept)
+    glide-recalls (entry here .pre .guided) (x .along) (turn found) (more (found .before .before .before .before .before .before .before .before .before)) (x .kept)
 
 loop-less : tie.Need-loop-less Inv-loop μ-loop
 loop-less c = omega (arith, c .before .before .recall .ensures .read)

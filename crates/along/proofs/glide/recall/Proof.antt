@@ -73,7 +73,8 @@ returns c =
     let letter = lettered .letter .ensures in
     let told = lettered .before .before in
     let asked = told .before .before .before .before .before .args in
-    recalled (asked .links .now) (asked .tree .now) (asked .p) (asked .b) (asked .s) (letter .1) (letter .0) (laid .lay .ensures) (told .before .before .before .before .before .pre .past) refl refl refl (other told)
+    let past = told .before .before .before .before .before .pre .past in
+    recalled (asked .links .now) (asked .tree .now) (asked .p) (asked .b) (asked .s) (letter .1) (letter .0) (laid .lay .ensures) past refl refl refl (other told)
 
 pub recall-spec : {M : Type 1} → statement M
 recall-spec =

@@ -22,10 +22,12 @@ number-requires : tie.Need-number-requires
 number-requires c κs = tt
 
 store-requires : tie.Need-store-requires
-store-requires c κs = omega (arith, c .before .before .before .before .before .pre .0, c .before .before .before .before .before .pre .1 .1 .0)
+store-requires c κs =
+    let asked = c .before .before .before .before .before .pre in
+    omega (arith, asked .0, asked .1 .1 .0)
 
 -- the place has its four numbers
-fits : (c : tie.After-store) → (c .before .before .before .before .before .before .args .s < 256) × (length (c .before .before .before .before .before .before .args .links .now) ≡ 1024)
+fits : (c : tie.After-store) → let asked = c .before .before .before .before .before .before .args in (asked .s < 256) × (length (asked .links .now) ≡ 1024)
 fits c = let asked = c .before .before .before .before .before .before .pre in (asked .0, asked .1 .1 .1)
 
 mul-links : tie.Need-mul-links
@@ -68,7 +70,7 @@ returns : tie.Need-returns
 returns c = keeps-passed (c .before .u .given .1)
 
 returns-2 : tie.Need-returns-2
-returns-2 c = let told = c .before .before .before .before in keeps-stopped (told .u2 .given .1) (fits c .0) (fits c .1) (c .before .before .number .ensures) (c .store .ensures)
+returns-2 c = keeps-stopped (c .before .before .before .before .u2 .given .1) (fits c .0) (fits c .1) (c .before .before .number .ensures) (c .store .ensures)
 
 pub keep-spec : {M : Type 1} → statement M
 keep-spec =

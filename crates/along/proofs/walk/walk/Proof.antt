@@ -25,7 +25,9 @@ load-requires : tie.Need-load-requires Inv-loop μ-loop
 load-requires c κs = omega (arith, c .before .before .before .pre .0 .walkable .enough)
 
 enter-requires : tie.Need-enter-requires Inv-loop μ-loop
-enter-requires c κs = (walk-ready (c .before .before .before .before .before .pre .0 .walkable), c .before .before .before .before .before .pre .1 .scanned)
+enter-requires c κs =
+    let asked = c .before .before .before .before .before .pre in
+    (walk-ready (asked .0 .walkable), asked .1 .scanned)
 
 -- what is asked, once the root is entered, of any e that the root may hold
 abbrev Entered : Type 0

@@ -56,7 +56,9 @@ shared-slice-read-load : tie.Need-shared-slice-read-load Inv-loop μ-loop
 shared-slice-read-load c = omega arith
 
 cast-load : tie.Need-cast-load Inv-loop μ-loop
-cast-load c = omega (arith, c .shared-slice-known4 .given (length (c .before .before .before .before .before .before .before .before .before .before .before .before .before .args .text .now) - 1))
+cast-load c =
+    let text = c .before .before .before .before .before .before .before .before .before .before .before .before .before .args .text .now in
+    omega (arith, c .shared-slice-known4 .given (length text - 1))
 
 load-requires : tie.Need-load-requires Inv-loop μ-loop
 load-requires c κs =
@@ -78,7 +80,9 @@ sub-i-2 c = omega arith
 
 slice-aggregate-recall : tie.Need-slice-aggregate-recall Inv-loop μ-loop
 unfolding rows
-slice-aggregate-recall c = omega (arith, c .before .before .before .before .before .before .before .before .before .before .reverse .ensures .same-rows)
+slice-aggregate-recall c =
+    let reversed = c .before .before .before .before .before .before .before .before .before .before .reverse .ensures in
+    omega (arith, reversed .same-rows)
 
 shared-slice-read-recall : tie.Need-shared-slice-read-recall Inv-loop μ-loop
 shared-slice-read-recall c = omega (arith, c .before .before .before .before .before .loop .inv .0)
@@ -93,7 +97,8 @@ recall-requires c κs =
 same-cells : (c : tie.At-loop Inv-loop μ-loop) → rows (c .loop .cells) ≡ rows (entry (begun c) .args .cells .now)
 same-cells c =
     let first = c .before .before .before in
-    c .loop .inv .1 ∙ first .store2 .ensures .same-rows ∙ first .before .before .before .before .before .before .before .before .before .before .store .ensures .same-rows
+    let ended = first .before .before .before .before .before .before .before .before .before .before .store .ensures in
+    c .loop .inv .1 ∙ first .store2 .ensures .same-rows ∙ ended .same-rows
 
 store-requires-3 : tie.Need-store-requires-3 Inv-loop μ-loop
 store-requires-3 c κs =

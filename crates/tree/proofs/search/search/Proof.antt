@@ -29,17 +29,22 @@ in-order : (c : tie.After-read) → let asked = c .before .before .before .befor
 in-order c = ready (omega arith) (omega arith) (omega arith)
 
 -- the reader accepted the pattern
-a-pattern : (c : tie.After-enum-told) → Held (c .before .before .before .before .before .before .before .before .before .before .args .pattern .now) (c .before .before .read .result .pattern)
-a-pattern c = held (c .before .before .read .result) (c .before .before .read .ensures) (c .enum-told .given .1)
+a-pattern : (c : tie.After-enum-told) → let told = c .before .before in Held (told .before .before .before .before .before .before .before .before .args .pattern .now) (told .read .result .pattern)
+a-pattern c =
+    let told = c .before .before .read in
+    held (told .result) (told .ensures) (c .enum-told .given .1)
 
 sub-root : tie.Need-sub-root
-sub-root c = some-node (c .before .before .before .before .before .before .before .before .before .before .shared-slice-known .given) (a-pattern (c .before))
+sub-root c =
+    let bytes = c .before .before .before .before .before .before .before .before .before .before .shared-slice-known .given in
+    some-node bytes (a-pattern (c .before))
 
 find-requires : tie.Need-find-requires
 find-requires c κs =
     let told = c .before .before .before .before .before .before .before in
+    let bytes = told .before .before .before .before .before .before .before .before .before .shared-slice-known .given in
     let ready = in-order (told .before .before) in
-    (gives (told .before .before .before .before .before .before .before .before .before .shared-slice-known .given) (a-pattern told), (ready .short-text, omega (arith, ready .cells-enough)))
+    (gives bytes (a-pattern told), (ready .short-text, omega (arith, ready .cells-enough)))
 
 enum-told-2 : tie.Need-enum-told-2
 enum-told-2 c = search needs
@@ -69,7 +74,9 @@ returns-4 c =
     searched bytes (a-pattern told) (in-order (told .before .before)) (c .before .before .before .before .find .ensures)
 
 returns-5 : tie.Need-returns-5
-returns-5 c = absurd (omega (arith, too-long (c .before .before .read .result) (c .before .before .read .ensures) (c .enum-told2 .given .1)))
+returns-5 c =
+    let told = c .before .before .read in
+    absurd (omega (arith, too-long (told .result) (told .ensures) (c .enum-told2 .given .1)))
 
 returns-6 : tie.Need-returns-6
 returns-6 c =

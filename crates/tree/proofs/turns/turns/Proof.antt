@@ -59,7 +59,8 @@ loop-again c =
 returns-3 : tie.Need-returns-3 Inv-loop μ-loop
 returns-3 c =
     let l = c .before .loop in
-    let e = count-end (c .before .before .before .before .before .args .mark) (c .before .before .before .before .before .args .row .now) (l .i) (omega arith) in
+    let asked = c .before .before .before .before .before .args in
+    let e = count-end (asked .mark) (asked .row .now) (l .i) (omega arith) in
     counted-as (l .n) (omega arith) (omega arith) (omega (arith, e, l .inv .2))
 
 pub turns-spec : {M : Type 1} → statement M
