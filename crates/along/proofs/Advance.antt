@@ -9,7 +9,7 @@ use lib.ListN.{length, getD, set, drop, length-drop}
 use borrow.Author.Tests.{eq-eqb, ne-eqb}
 use Rattle.meaning.specs.Expression.{Re, marks, size}
 use Rattle.meaning.specs.Tree.{letter}
-use Rattle.positions.specs.Alive.{ended, alive-in}
+use Rattle.positions.specs.Alive.{alive, ended, alive-in}
 use Rattle.positions.specs.Positions.{Out, pass, at}
 use Rattle.positions.specs.Runs.{Run, run, rowOf, outOf, otherOf, put, enterRun, resumeRun}
 use Rattle.sets.specs.declared.set.Set.{Set}
@@ -113,7 +113,8 @@ module _ {e : Re} {ks gs txt cells : List ℕ} {root : ℕ} (W : Walkable e ks g
         }
 
     -- the next byte: its letter, and the way on
-    pub walk-came : {keys keys′ links links′ t₁ t′ : List ℕ} {u r : Step} {c : ℕ} {goal : Set} {last : Bool} → Kept e keys links t (s .at) → goal ≡ row cells (s .read + 1) → last ≡ ended (drop (s .read + 1) txt)
+    pub walk-came : {keys keys′ links links′ t₁ t′ : List ℕ} {u r : Step} {c : ℕ} {goal : Set} {last : Bool}
+        → Kept e keys links t (s .at) → goal ≡ row cells (s .read + 1) → last ≡ ended (drop (s .read + 1) txt)
         → c ≡ s .at + 1 → t₁ ≡ set t (s .at) (256 + getD txt (s .read) 0) → Went ks gs root (s .position) goal last keys keys′ links links′ t₁ t′ c u → r ≡ noted (s .other) u
         → Came e txt keys′ links′ t t′ (stood s) r (s .read) (s .read + 1)
     walk-came {keys} {keys′} {links} {links′} {t₁} {t′} {u} {r} {c} {goal} {last} K g l y z D n =
@@ -125,10 +126,12 @@ module _ {e : Re} {ks gs txt cells : List ℕ} {root : ℕ} (W : Walkable e ks g
         let k : Kept e keys links t₁ c = kept-on K (written-below t (b ∷ []) (s .at) z) (omega arith) in
         let a : cursor r ≡ cursor u = ap cursor n ∙ cursor-noted (s .other) u in
         let m = wrote-cursor v in
+        let goal-lives : (p : ℕ) → has goal p ≡ alive e (drop (s .read + 1) txt) p = λ p. ap (λ (x : Set). has x p) g ∙ W .living (s .read + 1) p (omega arith) in
+        let stepped = n ∙ ap (noted (s .other)) (v .step) ∙ turned (outOf R) (s .at + suc (length (rowOf R))) (otherOf R) (s .other) in
         record {
           along =
-              along-more e (W .fair) few txt (s .read) h t t′ (stood s) r (has goal) last A refl (λ p. ap (λ (x : Set). has x p) g ∙ W .living (s .read + 1) p (omega arith)) l
-              (written-below t (b ∷ rowOf R) (s .at) (v .row)) (written-shows t (b ∷ rowOf R) (s .at) (v .row)) (n ∙ ap (noted (s .other)) (v .step) ∙ turned (outOf R) (s .at + suc (length (rowOf R))) (otherOf R) (s .other));
+              along-more e (W .fair) few txt (s .read) h t t′ (stood s) r (has goal) last A refl goal-lives l
+              (written-below t (b ∷ rowOf R) (s .at) (v .row)) (written-shows t (b ∷ rowOf R) (s .at) (v .row)) stepped;
           kept = rw a (D .kept e (W .fair) few (W .holds) inside k);
           later = omega (arith, a, m);
           beyond = beyond-less _ (written-beyond t (b ∷ rowOf R) (s .at) (v .row)) (omega (arith, a, m));
@@ -138,8 +141,8 @@ module _ {e : Re} {ks gs txt cells : List ℕ} {root : ℕ} (W : Walkable e ks g
   walk-ready = record { e = e; m = 0; p = 0; holds = W .holds; within = W .within; few = omega (arith, W .few); room = omega (arith, W .few) }
 
   -- and the end
-  pub walk-end : {keys links t₀ t₁ t : List ℕ} {s₀ s : Step} {i : ℕ} {r : Walked} → Beyond t₀ t₁ (cursor s₀) → Came e txt keys links t₁ t s₀ s 0 i → i ≡ length txt → r .length ≡ cursor s → r .other ≡ other-of s
-      → Writes e txt t₀ t r
+  pub walk-end : {keys links t₀ t₁ t : List ℕ} {s₀ s : Step} {i : ℕ} {r : Walked} → Beyond t₀ t₁ (cursor s₀) → Came e txt keys links t₁ t s₀ s 0 i
+      → i ≡ length txt → r .length ≡ cursor s → r .other ≡ other-of s → Writes e txt t₀ t r
   walk-end {t₀ = t₀} {t = t} {s₀} {s} B C z l o =
       let b : Beyond t₀ t (cursor s) = beyond-less _ (beyond-then _ B (C .beyond) (omega (arith, C .later))) (omega arith) in
       let x = along-end e (W .fair) few txt {t₀ = t₀} (C .along) z (λ c w k. rw (ap cursor k) at b) in

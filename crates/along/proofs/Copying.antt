@@ -23,10 +23,13 @@ laid-next t₀ {t} from new i {v} L z =
     let n : length (set t (new + i) v) ≡ length t₀ = length-set t (new + i) v ∙ L .below .same-length in
     record {
       below = record { same-length = n; same = λ j h. getD-set-other t (new + i) j v 0 (λ x. omega arith) ∙ L .below .same j h };
-      copied = λ j h l. side j i (getD (set t (new + i) v) (new + j) 0 ≡ getD t₀ (from + j) 0) (λ k. getD-set-other t (new + i) (new + j) v 0 (λ x. omega arith) ∙ L .copied j k l) (λ k. here j (omega arith) l);
+      copied = λ j h l. side j i (getD (set t (new + i) v) (new + j) 0 ≡ getD t₀ (from + j) 0) (λ k. before j k l) (λ k. here j (omega arith) l);
       beyond = record { same-length = n; same = λ j h. getD-set-other t (new + i) j v 0 (λ x. omega arith) ∙ L .beyond .same j (omega arith) };
     }
   where
+    before : (j : ℕ) → j < i → new + j < length t₀ → getD (set t (new + i) v) (new + j) 0 ≡ getD t₀ (from + j) 0
+    before j k l = getD-set-other t (new + i) (new + j) v 0 (λ x. omega arith) ∙ L .copied j k l
+
     here : (j : ℕ) → j ≡ i → new + j < length t₀ → getD (set t (new + i) v) (new + j) 0 ≡ getD t₀ (from + j) 0
     here j x l = rw x (getD-set-same t (new + i) v 0 (omega (arith, L .below .same-length)) ∙ z)
 
@@ -53,8 +56,8 @@ eight-laid t from new = next 7 (next 6 (next 5 (next 4 (next 3 (next 2 (next 1 f
     first = rw (add-zero new, add-zero from) at (next 0 (laid-none t from new))
 
 -- a letter, and a row behind it
-module _ (links t : List ℕ) (p b : ℕ) (s : Stand) {t₁ t′ : List ℕ} {c spare : ℕ} (z : t₁ ≡ set t (s .at) (256 + b)) (y : c ≡ s .at + 1) (L : Laid t₁ t′ (getD links (4 * p + 1) 0) (getD links (4 * p + 2) 0) c spare)
-    (h : getD links (4 * p + 1) 0 + getD links (4 * p + 2) 0 ≤ s .at) where
+module _ (links t : List ℕ) (p b : ℕ) (s : Stand) {t₁ t′ : List ℕ} {c spare : ℕ} (z : t₁ ≡ set t (s .at) (256 + b)) (y : c ≡ s .at + 1)
+    (L : Laid t₁ t′ (getD links (4 * p + 1) 0) (getD links (4 * p + 2) 0) c spare) (h : getD links (4 * p + 1) 0 + getD links (4 * p + 2) 0 ≤ s .at) where
   below : Below t t₁ (s .at)
   below = written-below t (letter b ∷ []) (s .at) z
 
@@ -62,7 +65,9 @@ module _ (links t : List ℕ) (p b : ℕ) (s : Stand) {t₁ t′ : List ℕ} {c 
   row ρ l S = shows-then t′ (s .at) (letter b ∷ []) ρ (shows-still (s .at) (letter b ∷ []) (written-shows t (letter b ∷ []) (s .at) z) (L .below) (omega arith)) rest
     where
       rest : Shows t′ (s .at + 1) ρ
-      rest = rw (← y) (λ i k m. L .copied i (omega arith) (omega (arith, L .below .same-length)) ∙ below .same (getD links (4 * p + 1) 0 + i) (omega arith) ∙ S i k (omega (arith, L .below .same-length, below .same-length)))
+      rest = rw (← y) (λ i k m.
+          let same = L .below .same-length in
+          L .copied i (omega arith) (omega arith) ∙ below .same (getD links (4 * p + 1) 0 + i) (omega arith) ∙ S i k (omega (arith, below .same-length)))
 
   pub recalled : {r : Stand} → r .read ≡ s .read + 1 → r .position ≡ getD links (4 * p) 0 → r .at ≡ c + getD links (4 * p + 2) 0 → r .other ≡ (s .other || eqb (getD links (4 * p + 3) 0) 1)
       → Recalled links p b t t′ spare s r

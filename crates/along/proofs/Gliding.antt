@@ -17,7 +17,7 @@ use Rattle.positions.specs.Sets.{follows, Meet, meet, reaches-meet}
 use Rattle.positions.specs.Tests.{reads, reaches}
 use Rattle.bits.specs.Truth.{both}
 use Rattle.sets.specs.declared.set.Set.{Set}
-use Rattle.sets.specs.Members.{has, limit, row}
+use Rattle.sets.specs.Members.{has, limit, row, Alike}
 use Rattle.walks.specs.declared.step.Step.the-variants.{Stopped}
 use Rattle.walks.specs.Steps.{cursor, stepOf}
 use Rattle.along.specs.declared.glide.Stand.{Stand}
@@ -43,7 +43,7 @@ pub record Turn (cells ts keys : List ℕ) (s : Stand) (goal near : Set) (p : �
   pub goal-is : goal ≡ row cells (s .read + 1)
   pub near-is : (q : ℕ) → has near q ≡ (has (row ts (s .position)) q && has goal q)
   pub place : PlaceOf (s .position) p
-  pub same : (q : ℕ) → has (row keys p) q ≡ has near q
+  pub same : Alike (row keys p) near
 
 module _ {e : Re} {txt cells ts : List ℕ} (G : Guided e txt cells ts) {t : List ℕ} {s : Stand} (A : Along e txt t (stood s) (s .read)) where
   few : marks e ≤ 127
@@ -69,8 +69,10 @@ module _ {e : Re} {txt cells ts : List ℕ} (G : Guided e txt cells ts) {t : Lis
     -- one of the goal may follow
     member : (q : ℕ) × (has near q ≡ true)
     member =
-        let b = both (reads 0 e (s .position) (getD txt (s .read) 0)) (reaches 0 e (s .position) (alive e (drop (suc (s .read)) txt))) (sym (alive-at e txt (s .read) (s .position) (omega arith)) ∙ living) in
-        go (reaches-meet 0 e (s .position) (alive e (drop (suc (s .read)) txt)) .0 (b .1))
+        let q = s .position in
+        let on = alive e (drop (suc (s .read)) txt) in
+        let b = both (reads 0 e q (getD txt (s .read) 0)) (reaches 0 e q on) (sym (alive-at e txt (s .read) q (omega arith)) ∙ living) in
+        go (reaches-meet 0 e q on .0 (b .1))
       where
         go : Meet (follows 0 e (s .position)) (alive e (drop (suc (s .read)) txt)) → (q : ℕ) × (has near q ≡ true)
         go (meet {q = q} i k) =
@@ -94,7 +96,8 @@ module _ {e : Re} {txt cells ts : List ℕ} (G : Guided e txt cells ts) {t : Lis
           }
 
       led : (o : Out) (w : Bool) → o ≡ at (getD links (4 * p) 0) → getD links (4 * p + 3) 0 ≡ flag w
-          → Stopped (getD links (4 * p) 0) (s .at + 1 + getD links (4 * p + 2) 0) (s .other || eqb (getD links (4 * p + 3) 0) 1) ≡ stepOf o (s .at + suc (length (rowOf (way e (s .position) goal)))) (s .other || w)
+          → Stopped (getD links (4 * p) 0) (s .at + 1 + getD links (4 * p + 2) 0) (s .other || eqb (getD links (4 * p + 3) 0) 1)
+          ≡ stepOf o (s .at + suc (length (rowOf (way e (s .position) goal)))) (s .other || w)
       led o w x y =
           let m : s .at + 1 + getD links (4 * p + 2) 0 ≡ s .at + suc (length (rowOf (way e (s .position) goal))) = omega (arith, link .long-is) in
           rw (x, y, flag-back w, m) refl

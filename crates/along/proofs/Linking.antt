@@ -16,13 +16,13 @@ use Rattle.positions.specs.Runs.{Run, run, rowOf, resumeRun, resume-run-same}
 use Rattle.positions.specs.Sets.{follows}
 use Rattle.sets.proofs.SetLaws.{zeros-empty}
 use Rattle.sets.specs.declared.set.Set.{Set}
-use Rattle.sets.specs.Members.{has, row, Stored}
+use Rattle.sets.specs.Members.{has, row, Alike, Stored}
 use Rattle.walks.specs.declared.step.Step.{Step}
 use Rattle.walks.specs.declared.step.Step.the-variants.{Passed, Stopped}
 use Rattle.walks.specs.Steps.{cursor, Wrote}
 use Rattle.walks.proofs.Written.{wrote-cursor}
 use Rattle.walks.specs.Tables.{flag}
-use Rattle.along.specs.Links.{Link, LinkAt, four, PlaceOf, Kept, Keeps}
+use Rattle.along.specs.Links.{Link, LinkAt, four, PlaceOf, PlaceFor, Kept, Keeps}
 use Rattle.along.specs.Rows.{Below}
 use Rattle.along.proofs.Along.{apart}
 use Rattle.along.proofs.Standing.{written-below, written-shows, shows-still}
@@ -56,7 +56,11 @@ link-new {t} {t′} {c} {c′} {q} {w} (run ρ (at p) v) W z =
 -- ---- the places
 
 four-other : (l : List ℕ) (s x a b c d : ℕ) → (x ≡ 4 * s → ⊥) → (x ≡ 4 * s + 1 → ⊥) → (x ≡ 4 * s + 2 → ⊥) → (x ≡ 4 * s + 3 → ⊥) → getD (four l s a b c d) x 0 ≡ getD l x 0
-four-other l s x a b c d h i j k = getD-set-other (set (set (set l (4 * s) a) (4 * s + 1) b) (4 * s + 2) c) (4 * s + 3) x d 0 k ∙ getD-set-other (set (set l (4 * s) a) (4 * s + 1) b) (4 * s + 2) x c 0 j ∙ getD-set-other (set l (4 * s) a) (4 * s + 1) x b 0 i ∙ getD-set-other l (4 * s) x a 0 h
+four-other l s x a b c d h i j k =
+    let l₁ = set l (4 * s) a in
+    let l₂ = set l₁ (4 * s + 1) b in
+    let l₃ = set l₂ (4 * s + 2) c in
+    getD-set-other l₃ (4 * s + 3) x d 0 k ∙ getD-set-other l₂ (4 * s + 2) x c 0 j ∙ getD-set-other l₁ (4 * s + 1) x b 0 i ∙ getD-set-other l (4 * s) x a 0 h
 
 module _ (l : List ℕ) (s a b c d : ℕ) (h : 4 * s + 3 < length l) where
   l₁ : List ℕ
@@ -94,11 +98,18 @@ module _ (l : List ℕ) (s a b c d : ℕ) (h : 4 * s + 3 < length l) where
 
   at-1 : getD (four l s a b c d) (4 * s + 1) 0 ≡ b
   unfolding l₁ l₂ l₃
-  at-1 = getD-set-other l₃ (4 * s + 3) (4 * s + 1) d 0 (λ z. omega arith) ∙ getD-set-other l₂ (4 * s + 2) (4 * s + 1) c 0 (λ z. omega arith) ∙ getD-set-same l₁ (4 * s + 1) b 0 (omega (arith, long₁))
+  at-1 =
+      getD-set-other l₃ (4 * s + 3) (4 * s + 1) d 0 (λ z. omega arith)
+      ∙ getD-set-other l₂ (4 * s + 2) (4 * s + 1) c 0 (λ z. omega arith)
+      ∙ getD-set-same l₁ (4 * s + 1) b 0 (omega (arith, long₁))
 
   at-0 : getD (four l s a b c d) (4 * s) 0 ≡ a
   unfolding l₁ l₂ l₃
-  at-0 = getD-set-other l₃ (4 * s + 3) (4 * s) d 0 (λ z. omega arith) ∙ getD-set-other l₂ (4 * s + 2) (4 * s) c 0 (λ z. omega arith) ∙ getD-set-other l₁ (4 * s + 1) (4 * s) b 0 (λ z. omega arith) ∙ getD-set-same l (4 * s) a 0 (omega arith)
+  at-0 =
+      getD-set-other l₃ (4 * s + 3) (4 * s) d 0 (λ z. omega arith)
+      ∙ getD-set-other l₂ (4 * s + 2) (4 * s) c 0 (λ z. omega arith)
+      ∙ getD-set-other l₁ (4 * s + 1) (4 * s) b 0 (λ z. omega arith)
+      ∙ getD-set-same l (4 * s) a 0 (omega arith)
 
   link-at : {R : Run} {t : List ℕ} {m : ℕ} → Link R t m a b c d → LinkAt R (four l s a b c d) t m s
   link-at L = rw (at-0, at-1, at-2, at-3) L
@@ -112,6 +123,9 @@ link-off l s s′ a b c d n L =
       four-other l s (4 * s′ + 3) a b c d (λ z. omega arith) (λ z. omega arith) (λ z. omega arith) (λ z. n (omega arith)),
     )
     L
+
+pub place-of : {j s : ℕ} {goal : Set} → PlaceFor j goal s → PlaceOf j s
+place-of P = record { from = omega (arith, P .place); below = omega (arith, P .place) }
 
 -- one more link, which is asked for where the goal has a member
 kept-new : {e : Re} {keys keys′ links t : List ℕ} {m : ℕ} {goal : Set} (j s a b c d : ℕ) → Kept e keys links t m → PlaceOf j s → 4 * s + 3 < length links → Stored goal s keys keys′
@@ -136,7 +150,8 @@ module _ {e : Re} (q : ℕ) (near goal : Set) (f : Fair e) (m : marks e ≤ 127)
   near-run p y = resume-near f m q p (has goal) (has near) n y
 
   -- a link whose goal is the same as `near`
-  pub kept-link : {keys links t : List ℕ} {c : ℕ} (s p : ℕ) → Kept e keys links t c → PlaceOf q s → has near p ≡ true → ((p : ℕ) → has (row keys s) p ≡ has near p) → LinkAt (resumeRun 0 0 e q (has goal) false) links t c s
+  pub kept-link : {keys links t : List ℕ} {c : ℕ} (s p : ℕ) → Kept e keys links t c → PlaceOf q s → has near p ≡ true → Alike (row keys s) near
+      → LinkAt (resumeRun 0 0 e q (has goal) false) links t c s
   kept-link {keys} s p K P y same = rw (near-run p y, ← resume-run-same 0 0 e q (has (row keys s)) (has near) false same) (K .link q s p P (same p ∙ y))
 
   -- after a walk to the goal, which is kept
@@ -156,13 +171,23 @@ module _ {e : Re} (q : ℕ) (near goal : Set) (f : Fair e) (m : marks e ≤ 127)
           rw (k, x .1) (kept-new q s p c (d - c) (flag w) o P l (x .0) (λ p y. rw (← near-run p y) (link-new _ W z)))
 
 -- what a position may be followed by, in the goal
-pub near-is : (e : Re) (ts : List ℕ) (q : ℕ) (at-q near goal : Set) → ((p : ℕ) → has (row ts q) p ≡ follows 0 e q p) → at-q ≡ row ts q → ((p : ℕ) → has near p ≡ (has at-q p && has goal p)) → (p : ℕ) → has near p ≡ (follows 0 e q p && has goal p)
+pub near-is : (e : Re) (ts : List ℕ) (q : ℕ) (at-q near goal : Set) → ((p : ℕ) → has (row ts q) p ≡ follows 0 e q p)
+    → at-q ≡ row ts q → ((p : ℕ) → has near p ≡ (has at-q p && has goal p)) → (p : ℕ) → has near p ≡ (follows 0 e q p && has goal p)
 near-is e ts q at-q near goal f z n p = n p ∙ ap (λ (b : Bool). b && has goal p) (ap (λ (s : Set). has s p) z ∙ f p)
 
 pub kept-none : (e : Re) (n : ℕ) (links t : List ℕ) (c : ℕ) → Kept e (replicate n 0) links t c
 kept-none e n links t c = record { link = λ j s p i y. absurd (false≢true (sym (zeros-empty n s p) ∙ y)) }
 
 -- ---- what `keep` does
+
+pub keeps-as : {s from : ℕ} {goal : Set} {u r : Step} {keys keys′ links links′ : List ℕ} → Keeps s goal from u r keys keys′ links links′ → Keeps s goal from r r keys keys′ links links′
+keeps-as K = record {
+  same-step = refl;
+  same-keys = K .same-keys;
+  same-links = K .same-links;
+  passed = λ c w z. K .passed c w (sym (K .same-step) ∙ z);
+  stopped = λ q c w z. K .stopped q c w (sym (K .same-step) ∙ z);
+}
 
 pub keeps-passed : {s at′ c : ℕ} {w : Bool} {goal : Set} {u : Step} {keys links : List ℕ} → u ≡ Passed c w → Keeps s goal at′ u (Passed c w) keys keys links links
 keeps-passed z = record { same-step = sym z; same-keys = refl; same-links = refl; passed = λ c w y. (refl, refl); stopped = λ q c w y. absurd (apart (sym z ∙ y)) }

@@ -5,7 +5,7 @@ ghost use lib.ListN.{length};
 ghost use Rattle.sets.specs.Members.{limit, rows};
 ghost use Rattle.walks.specs.Steps.{cursor};
 ghost use Rattle.walks.specs.Tables.{flag};
-ghost use Rattle.along.specs.Links.{Keeps, Linked, PlaceOf, Went};
+ghost use Rattle.along.specs.Links.{Filed, Keeps, Linked, PlaceFor, Went};
 ghost use Rattle.walks.specs.Root.{Charted};
 use sets::set::Set;
 use walks::resume::resume;
@@ -14,7 +14,7 @@ use walks::step::Step;
 // Where the way on from position q to the goal is kept: at one of four places, by the goal's least member, which is known before q is.
 pub fn kept_at(q: usize, goal: Set) -> usize
     requires { ⌜ q < limit ⌝ }
-    ensures { λ r. ⌜ PlaceOf q r ⌝ }
+    ensures { λ r. ⌜ PlaceFor q goal r ⌝ }
 {
     4 * q + goal.first() % 4
 }
@@ -76,7 +76,9 @@ pub fn onward<'a>(
 ) -> Step
     requires { ⌜ Linked (now kind) (now arg) root q (now keys) (now links) at ⌝ }
     requires { ⌜ Charted (now kind) (now arg) (now null) (now first) (now upto) (now follow) root ⌝ }
-    ensures { λ r. ⌜ Went (now (kind .entry)) (now (arg .entry)) root q goal last (now (keys .entry)) (now (keys .exit)) (now (links .entry)) (now (links .exit)) (now (tree .entry)) (now (tree .exit)) at r ⌝ }
+    ensures { λ r. ⌜ Went (now (kind .entry)) (now (arg .entry)) root q goal last
+        (now (keys .entry)) (now (keys .exit)) (now (links .entry)) (now (links .exit)) (now (tree .entry)) (now (tree .exit)) at r ⌝ }
+    ensures { λ r. ⌜ Filed (now (follow .entry)) q goal last (now (keys .entry)) (now (keys .exit)) (now (links .entry)) (now (links .exit)) at r ⌝ }
 {
     let u = resume(kind, arg, null, first, upto, root, q, goal, last, tree, at);
     if last {

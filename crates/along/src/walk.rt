@@ -57,7 +57,8 @@ fn advance<'a>(
 ) -> Step
     requires { ⌜ Advances (now kind) (now arg) root (now text) (now cells) (now keys) (now links) s ⌝ }
     requires { ⌜ Charted (now kind) (now arg) (now null) (now first) (now upto) (now follow) root ⌝ }
-    ensures { λ r. ⌜ Advanced (now (kind .entry)) (now (arg .entry)) root (now (text .entry)) (now (cells .entry)) (now (keys .entry)) (now (keys .exit)) (now (links .entry)) (now (links .exit)) (now (tree .entry)) (now (tree .exit)) s r ⌝ }
+    ensures { λ r. ⌜ Advanced (now (kind .entry)) (now (arg .entry)) root (now (text .entry)) (now (cells .entry))
+        (now (keys .entry)) (now (keys .exit)) (now (links .entry)) (now (links .exit)) (now (tree .entry)) (now (tree .exit)) s r ⌝ }
 {
     let i = s.read;
     let next = i + 1;
@@ -106,7 +107,8 @@ pub fn walk<'a>(
 ) -> Walked
     requires { ⌜ Walks (now kind) (now arg) root (now text) (now cells) ⌝ }
     requires { ⌜ Charted (now kind) (now arg) (now null) (now first) (now upto) (now follow) root ⌝ }
-    ensures { λ r. ⌜ ((e : Re) → Walkable e (now (kind .entry)) (now (arg .entry)) root (now (text .entry)) (now (cells .entry)) → Writes e (now (text .entry)) (now (tree .entry)) (now (tree .exit)) r) ⌝ }
+    ensures { λ r. ⌜ ((e : Re) → Walkable e (now (kind .entry)) (now (arg .entry)) root (now (text .entry)) (now (cells .entry))
+        → Writes e (now (text .entry)) (now (tree .entry)) (now (tree .exit)) r) ⌝ }
 {
     let n = text.len();
     let goal = Set::load(cells, 0);

@@ -60,7 +60,8 @@ module _ (left rest : Set) (q : ℕ) (here : has left q ≡ true) (less : (k : �
       there : any (via left) limit ≡ true → (has (row follow q) k || any (via rest) limit) ≡ true
       there e = let w = any-some (via left) limit e in let b = both (has left (w .0)) (has (row follow (w .0)) k) (w .2) in go (eqb (w .0) q) refl (w .0) refl b
         where
-          go : (t : Bool) → eqb (any-some (via left) limit e .0) q ≡ t → (p : ℕ) → any-some (via left) limit e .0 ≡ p → (has left p ≡ true) × (has (row follow p) k ≡ true) → (has (row follow q) k || any (via rest) limit) ≡ true
+          go : (t : Bool) → eqb (any-some (via left) limit e .0) q ≡ t → (p : ℕ) → any-some (via left) limit e .0 ≡ p
+              → (has left p ≡ true) × (has (row follow p) k ≡ true) → (has (row follow q) k || any (via rest) limit) ≡ true
           go true i p j (l, r) = ap (λ (x : Bool). x || any (via rest) limit) (ap (λ (x : ℕ). has (row follow x) k) (sym (eqb-true _ q i) ∙ j) ∙ r)
           go false i p j (l, r) =
               ap (λ (x : Bool). has (row follow q) k || x)

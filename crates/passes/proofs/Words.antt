@@ -56,7 +56,9 @@ module _ (x w : ℕ) (z : 0 < x) (f : x < 2 ^ 64) where
       go true e =
           let l = lowest-lt x z f in
           let d : b / 64 ≡ w = eqb-true _ _ e in
-          let k : eqb (b % 64) low ≡ eqb b (64 * w + low) = alike _ _ (λ i. let m = eqb-true (b % 64) low i in eq-eqb b (64 * w + low) (omega arith)) (λ i. let m = eqb-true b (64 * w + low) i in eq-eqb (b % 64) low (omega arith)) in
+          let there : eqb (b % 64) low ≡ true → eqb b (64 * w + low) ≡ true = λ i. let m = eqb-true (b % 64) low i in eq-eqb b (64 * w + low) (omega arith) in
+          let back : eqb b (64 * w + low) ≡ true → eqb (b % 64) low ≡ true = λ i. let m = eqb-true b (64 * w + low) i in eq-eqb (b % 64) low (omega arith) in
+          let k : eqb (b % 64) low ≡ eqb b (64 * w + low) = alike _ _ there back in
           bit-drop 64 x (b % 64) z f ∙ ap (λ (t : Bool). bit 64 x (b % 64) && not t) k
       go false e = refl
 

@@ -27,6 +27,10 @@ vacant s = not (any (has s) limit)
 unfoldable pub meets : Set → Set → Bool
 meets s t = any (λ q. has s q && has t q) limit
 
+-- s and t have the same members
+abbrev pub Alike : Set → Set → Type 0
+Alike s t = (q : ℕ) → has s q ≡ has t q
+
 -- r is the least member of s, or the limit where there is none
 pub record Least (s : Set) (r : ℕ) : Type 0 where
   pub within : r ≤ limit

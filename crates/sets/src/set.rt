@@ -1,9 +1,10 @@
 // A set of positions below the limit, in one word. Contracts speak of members alone, so that a limit of two words moves no caller.
 ghost use mathlib.Core.Path.{_≡_};
 ghost use mathlib.Core.Bool.{true, false, _&&_, _||_, not};
+ghost use mathlib.Core.Logic.{_↔_};
 ghost use Prim.Native.Nat.{ℕ, _<_};
 ghost use lib.Dec.{eqb};
-ghost use Rattle.sets.specs.Members.{has, limit, vacant, meets, Least, rows, row, Stored};
+ghost use Rattle.sets.specs.Members.{has, limit, vacant, meets, Alike, Least, rows, row, Stored};
 
 // Position p is the bit p.
 pub struct Set {
@@ -74,9 +75,9 @@ impl Set {
         self.bits == 0
     }
 
-    // Have both the same members? A yes is sure.
+    // Have both the same members?
     pub fn same(self, other: Set) -> bool
-        ensures { λ r. ⌜ (r ≡ true → (q : ℕ) → has self q ≡ has other q) ⌝ }
+        ensures { λ r. ⌜ (r ≡ true) ↔ Alike self other ⌝ }
     {
         if self.bits == other.bits {
             return true;

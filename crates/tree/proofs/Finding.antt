@@ -46,7 +46,8 @@ module _ {e : Re} {ks gs cs : List ℕ} {root n k : ℕ} (G : Given e ks gs cs r
       beginning = λ q. T .charted .scanned .first root (omega arith) .has-firsts e 0 0 (G .rooted .holds) q;
     }
 
-    pub judgeable : {text l m : List ℕ} → Backed mask ts last text l m → ((i : ℕ) → Fits w8 (getD text i 0)) → length text ≤ text-limit → length text < rows l → Judgeable e ks gs fs mask ts root k text m
+    pub judgeable : {text l m : List ℕ} → Backed mask ts last text l m → ((i : ℕ) → Fits w8 (getD text i 0))
+        → length text ≤ text-limit → length text < rows l → Judgeable e ks gs fs mask ts root k text m
     judgeable {text} {l} {m} B b s h = record {
       rooted = G .rooted;
       bytes = bytes-fit text b;

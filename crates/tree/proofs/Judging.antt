@@ -55,7 +55,17 @@ module _ {e : Re} {ks gs fs mask follow text cells : List ℕ} {root k : ℕ} (J
       ∙ ap₂ (λ (l b : Bool). l || (nullable e && b)) (leads-same 0 e (has goal) (alive e text) (λ q. ap (λ (u : Set). has u q) g ∙ J .living 0 q (omega arith))) (ended-zero text)
 
   pub judge-walkable : found e text ≡ true → Walkable e ks gs root text cells
-  judge-walkable y = record { holds = J .rooted .holds; within = J .rooted .within; fair = J .rooted .fair; few = J .rooted .few-marks; few-positions = J .rooted .few-positions; short = J .short; enough = J .enough; living = J .living; a-tree = y }
+  judge-walkable y = record {
+    holds = J .rooted .holds;
+    within = J .rooted .within;
+    fair = J .rooted .fair;
+    few = J .rooted .few-marks;
+    few-positions = J .rooted .few-positions;
+    short = J .short;
+    enough = J .enough;
+    living = J .living;
+    a-tree = y;
+  }
 
   pub judge-tree : {t t′ : List ℕ} {w : Walked} → found e text ≡ true → Measures e text w → t′ ≡ kept (firstRow e text) t → SoughtAs e text t t′ (found-as.Tree (w .length) (w .other))
   judge-tree y M z = sought-tree (first-tree e (J .rooted .fair) few text y) (first-flag e (J .rooted .fair) few text y) (M .long) (ap (λ (b : Bool). cond b 1 0) (M .other)) z

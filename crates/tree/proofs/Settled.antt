@@ -80,7 +80,8 @@ answers {pat} {text} {cells} {room} {cells′} {room′} {n} {v} {f} h s = go (e
     go true e = let z : n ≡ 0 = eqb-true n 0 e in rw z (fits s z h)
     go false e = plain s (eqb-false n 0 e)
 
-module _ {pat text cells room cells₁ cells₂ room₁ room₂ : List ℕ} {n v f n′ v′ f′ : ℕ} (s : Searched pat text cells room n v f cells₁ room₁) (s′ : Searched pat text cells room n′ v′ f′ cells₂ room₂) where
+module _ {pat text cells room cells₁ cells₂ room₁ room₂ : List ℕ} {n v f n′ v′ f′ : ℕ}
+    (s : Searched pat text cells room n v f cells₁ room₁) (s′ : Searched pat text cells room n′ v′ f′ cells₂ room₂) where
   numbers-one : (n ≡ n′) × (v ≡ v′) × (f ≡ f′) × (cells₁ ≡ cells₂)
   numbers-one =
       let big : List ℕ = replicate (max v v′) 0 in

@@ -87,7 +87,8 @@ fn judge<'a>(
     requires { ⌜ Judges (now kind) (now arg) (now first) (now mask) (now follow) root marks (now text) (now cells) ⌝ }
     requires { ⌜ Charted (now kind) (now arg) (now null) (now first) (now upto) (now follow) root ⌝ }
     requires { ⌜ (256 ≤ rows (now mask)) × (limit ≤ rows (now follow)) ⌝ }
-    ensures { λ r. ⌜ ((e : Re) → Judgeable e (now (kind .entry)) (now (arg .entry)) (now (first .entry)) (now (mask .entry)) (now (follow .entry)) root marks (now (text .entry)) (now (cells .entry)) → SoughtAs e (now (text .entry)) (now (tree .entry)) (now (tree .exit)) r) ⌝ }
+    ensures { λ r. ⌜ ((e : Re) → Judgeable e (now (kind .entry)) (now (arg .entry)) (now (first .entry)) (now (mask .entry)) (now (follow .entry)) root marks (now (text .entry)) (now (cells .entry))
+        → SoughtAs e (now (text .entry)) (now (tree .entry)) (now (tree .exit)) r) ⌝ }
 {
     let n = text.len();
     if open_to(null, first, root, Set::load(cells, 0), n == 0) {
@@ -141,7 +142,8 @@ fn find<'a>(
 ) -> Found
     requires { ⌜ Gives (now kind) (now arg) (now class) root positions marks ⌝ }
     requires { ⌜ (length (now text) ≤ text-limit) × (length (now text) < length (now cells)) ⌝ }
-    ensures { λ r. ⌜ ((e : Re) → Given e (now (kind .entry)) (now (arg .entry)) (now (class .entry)) root positions marks → Finds e (now (text .entry)) (now (cells .entry)) (now (cells .exit)) (now (tree .entry)) (now (tree .exit)) r) ⌝ }
+    ensures { λ r. ⌜ ((e : Re) → Given e (now (kind .entry)) (now (arg .entry)) (now (class .entry)) root positions marks
+        → Finds e (now (text .entry)) (now (cells .entry)) (now (cells .exit)) (now (tree .entry)) (now (tree .exit)) r) ⌝ }
 {
     let mut null = [0u8; 1024];
     let mut first = [0u64; 1024];

@@ -116,7 +116,7 @@ module _ {ks gs ns fs : List ℕ} {i from : ℕ} (goal : Set) (pass : Bool) (T :
 
   module _ {v : Bool} (k : 3 < getD ks i 0) (z : v ≡ (eqb (getD ks i 0) 5 || eqb (getD ks i 0) 7)) where
     pub enters-loop : {t t′ : List ℕ} {r : Step} → v ≡ true → TurnsAt ks gs (i - 1) (getD gs i 0) goal pass t t′ from r → EntersAt ks gs i goal pass t t′ from r
-    enters-loop y W = record { wrote = λ e m p h. let s = single k h in rw (loop-run m p (has goal) pass (s .is) (sym z ∙ y)) (W .wrote (s .x) m p (s .part) (s .mark)) }
+    enters-loop y W = record { wrote = λ e m p h. let s = single k h in rw (loop-run m p (has goal) pass (s .is) (sym z ∙ y)) (rw (s .mark) at (W .wrote (s .x) (suc m) p (s .part))) }
 
     pub enters-turn : {t t₁ t₂ t₃ : List ℕ} {b : ℕ} {s r : Step} → v ≡ false → b ≡ from + 1 → t₁ ≡ set t from (getD gs i 0) → EntersAt ks gs (i - 1) goal pass t₁ t₂ b s
         → After s t₂ t₃ r (run ((128 + getD gs i 0) ∷ []) run-pass false) → EntersAt ks gs i goal pass t t₃ from r
@@ -159,13 +159,13 @@ module _ {ks gs ns fs : List ℕ} {i from : ℕ} (goal : Set) (pass : Bool) (T :
     pub turns-in : {t t₁ t₂ : List ℕ} {b : ℕ} {s r : Step} → v ≡ true → b ≡ from + 1 → t₁ ≡ set t from mark
         → EntersAt ks gs i goal false t₁ t₂ b s → r ≡ noted pass s → TurnsAt ks gs i mark goal pass t t₂ from r
     turns-in y q u E n = record {
-      wrote = λ e m p h a.
+      wrote = λ e m p h.
           let f = goes-is T (omega arith) goal z h in
-          rw (← f, y) (wrote-also pass _ n (wrote-put (suc m) _ (E .wrote e (suc m) p h) q (u ∙ rw a)));
+          rw (← f, y) (wrote-also pass _ n (wrote-put mark _ (E .wrote e m p h) q u));
     }
 
     pub turns-none : {t : List ℕ} → v ≡ false → TurnsAt ks gs i mark goal pass t t from (Passed from false)
-    turns-none {t} y = record { wrote = λ e m p h a. let f = goes-is T (omega arith) goal z h in rw (← f, y) (wrote-none t from run-pass false) }
+    turns-none {t} y = record { wrote = λ e m p h. let f = goes-is T (omega arith) goal z h in rw (← f, y) (wrote-none t from run-pass false) }
 
 pub then-noted : {t t′ : List ℕ} {c : ℕ} {s r : Step} (w : Bool) (R : Run) → r ≡ noted w s → Wrote t t′ c s R → Wrote t t′ c r (andThen (run [] pass w) R)
 then-noted w (run ρ o v) n h = rw (or-comm w v) (wrote-also w (run ρ o v) n h)

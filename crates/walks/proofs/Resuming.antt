@@ -248,7 +248,7 @@ module _ {ks gs : List ℕ} {i j from : ℕ} (goal : Set) (pass : Bool) where
 
 pub again-passed : {ks gs : List ℕ} {i mark c b : ℕ} {goal : Set} {pass w : Bool} {t t₁ t₂ : List ℕ} {s u r : Step} → s ≡ Passed c w → b ≡ c + 1 → t₁ ≡ set t c (128 + mark)
     → TurnsAt ks gs i mark goal pass t₁ t₂ b u → r ≡ noted w u → AgainAt ks gs i mark goal pass t t₂ s r
-again-passed {w = w} z q y W n = record { wrote = λ e m p h a. after-passed _ z (then-noted w _ n (wrote-put (closing m) _ (W .wrote e m p h a) q (y ∙ rw a))) }
+again-passed {w = w} z q y W n = record { wrote = λ e m p h a. after-passed _ z (then-noted w _ n (wrote-put (closing m) _ (rw a at (W .wrote e (suc m) p h)) q (y ∙ rw a))) }
 
 pub again-stopped : {ks gs : List ℕ} {i mark q c : ℕ} {goal : Set} {pass w : Bool} {s : Step} (t : List ℕ) → s ≡ Stopped q c w → AgainAt ks gs i mark goal pass t t s (Stopped q c w)
 again-stopped t z = record { wrote = λ e m p h a. after-stopped t _ z }

@@ -1,13 +1,13 @@
 -- What the walk into a part asks and what it does. Assumes nothing: these are definitions.
 use mathlib.Core.Path.{_≡_}
-use mathlib.Core.Bool.{Bool, false, not, _&&_, _||_}
+use mathlib.Core.Bool.{Bool, false, cond, not, _&&_, _||_}
 use mathlib.Core.List.{List}
-use Prim.Native.Nat.{ℕ, suc, _+_, _*_, _<_, _^_}
+use Prim.Native.Nat.{ℕ, _+_, _*_, _<_, _^_}
 use lib.Dec.{eqb}
 use Rattle.meaning.specs.Expression.{Re, marks}
 use Rattle.grammar.specs.Holds.{Holds}
 use Rattle.positions.specs.Tests.{leads}
-use Rattle.positions.specs.Runs.{enterRun, loop}
+use Rattle.positions.specs.Runs.{Run, also, put, through, enterRun}
 use Rattle.sets.specs.declared.set.Set.{Set}
 use Rattle.sets.specs.Members.{has, row, rows}
 use Rattle.walks.specs.declared.step.Step.{Step}
@@ -42,6 +42,10 @@ pub record EntersAt (ks gs : List ℕ) (i : ℕ) (goal : Set) (pass : Bool) (t t
 pub record OnAt (ks gs : List ℕ) (i : ℕ) (goal : Set) (pass : Bool) (t t′ : List ℕ) (s r : Step) : Type 0 where
   pub wrote : (e : Re) (m p : ℕ) → Holds ks gs m p i e → After s t t′ r (enterRun m p e (has goal) pass)
 
+-- a turn under the mark if l, and if b there is the way without it too
+abbrev pub turning : ℕ → Bool → Bool → Run → Run
+turning mark l b R = cond l (also b (put mark R)) through
+
 -- one more turn over node i, if it leads to the goal
 pub record TurnsAt (ks gs : List ℕ) (i mark : ℕ) (goal : Set) (pass : Bool) (t t′ : List ℕ) (from : ℕ) (r : Step) : Type 0 where
-  pub wrote : (e : Re) (m p : ℕ) → Holds ks gs (suc m) p i e → mark ≡ suc m → Wrote t t′ from r (loop m (leads p e (has goal)) pass (enterRun (suc m) p e (has goal) false))
+  pub wrote : (e : Re) (m p : ℕ) → Holds ks gs m p i e → Wrote t t′ from r (turning mark (leads p e (has goal)) pass (enterRun m p e (has goal) false))

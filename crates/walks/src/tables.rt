@@ -2,7 +2,7 @@
 ghost use mathlib.Core.Path.{_≡_};
 ghost use lib.ListN.{length};
 ghost use Rattle.sets.specs.Members.{limit, rows};
-ghost use Rattle.walks.specs.Root.{Root, Tabled};
+ghost use Rattle.walks.specs.Root.{Root, Tabled, Spared};
 use crate::first::opens_first;
 use crate::follow::may_follow;
 use crate::null::may_be_empty;
@@ -21,6 +21,8 @@ pub fn tables<'a>(
     requires { ⌜ Root (now kind) (now arg) root ⌝ }
     requires { ⌜ (length (now null) ≡ 1024) × ((rows (now first) ≡ 1024) × ((length (now upto) ≡ 1024) × (rows (now follow) ≡ limit))) ⌝ }
     ensures { λ r. ⌜ Tabled (now (kind .entry)) (now (arg .entry)) (now (null .exit)) (now (first .exit)) (now (upto .exit)) (now (follow .exit)) root r ⌝ }
+    ensures { λ _. ⌜ Spared (now (kind .entry)) (now (arg .entry)) root
+        (now (null .entry)) (now (null .exit)) (now (first .entry)) (now (first .exit)) (now (upto .entry)) (now (upto .exit)) (now (follow .entry)) (now (follow .exit)) ⌝ }
 {
     may_be_empty(kind, arg, null, root);
     opens_first(kind, arg, null, first, upto, root);

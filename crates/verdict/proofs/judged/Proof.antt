@@ -17,7 +17,10 @@ same-length : tie.Need-same-length
 same-length c = search needs
 
 returns : tie.Need-returns
-returns c = found-verdict (c .before .before .before .before .search .result) (c .told .ensures) (c .before .before .before .before .before .before .before .before .before .before .pre) (c .before .before .before .before .search .ensures)
+returns c =
+    let found = c .before .before .before .before in
+    let asked = found .before .before .before .before .before .before .pre in
+    found-verdict (found .search .result) (c .told .ensures) asked (found .search .ensures)
 
 pub judged-spec : {M : Type 1} → statement M
 judged-spec =

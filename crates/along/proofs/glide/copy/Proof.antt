@@ -46,7 +46,12 @@ loop-less : tie.Need-loop-less Inv-loop μ-loop
 loop-less c = omega arith
 
 loop-again : tie.Need-loop-again Inv-loop μ-loop
-loop-again c = (omega arith, laid-next _ (c .before .before .before .before .args .from) (c .before .before .before .before .args .at) (c .before .before .before .loop .i) (c .before .before .before .loop .inv .1) (c .before .before .before .loop .inv .1 .below .same (c .before .before .before .before .args .from + c .before .before .before .loop .i) (omega (arith, c .before .before .before .before .pre))))
+loop-again c =
+    let turn = c .before .before .before in
+    let i = turn .loop .i in
+    let laid = turn .loop .inv .1 in
+    let asked = turn .before .args in
+    (omega arith, laid-next _ (asked .from) (asked .at) i laid (laid .below .same (asked .from + i) (omega (arith, turn .before .pre))))
 
 same-length-2 : tie.Need-same-length-2 Inv-loop μ-loop
 same-length-2 c = c .before .loop .inv .1 .below .same-length

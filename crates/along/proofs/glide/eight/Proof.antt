@@ -148,7 +148,9 @@ same-length : tie.Need-same-length
 same-length c = simp length-set
 
 returns : tie.Need-returns
-returns c = eight-laid (c .before .before .before .before .before .before .before .before .args .tree .now) (c .before .before .before .before .before .before .before .before .args .from) (c .before .before .before .before .before .before .before .before .args .at)
+returns c =
+    let asked = c .before .before .before .before .before .before .before .before .args in
+    eight-laid (asked .tree .now) (asked .from) (asked .at)
 
 pub eight-spec : {M : Type 1} → statement M
 eight-spec =

@@ -1,6 +1,10 @@
 -- `along::glide::recall` meets its contract. Assumes nothing.
-use mathlib.Core.Path.{refl, _∙_}
+use mathlib.Core.Path.{_≡_, refl, _∙_}
+use mathlib.Core.Bool.{_||_}
 use mathlib.Core.Logic.{⊎-elim}
+use Prim.Native.Nat.{_+_, _*_}
+use lib.Dec.{eqb}
+use lib.ListN.{getD}
 use Rattle.walks.proofs.Written.{or-yes, or-no}
 use Rattle.along.proofs.Copying.{recalled}
 use borrow.Author.Needs.{needs}
@@ -58,8 +62,19 @@ add-t19 c = search needs
 same-length : tie.Need-same-length
 same-length c = search needs
 
+-- another way was open before, or is by what is kept
+other : (c : tie.Joined1) → let asked = c .before .before .before .before .before .args in c .if1 .other ≡ (asked .s .other || eqb (getD (asked .links .now) (4 * asked .p + 3) 0) 1)
+other c = ⊎-elim (λ x. x .1 ∙ or-yes _ (x .0 .taken)) (λ x. x .2 ∙ or-no _ (x .0 .left)) (c .if1 .came)
+
 returns : tie.Need-returns
-returns c = recalled (c .before .before .before .before .before .before .before .before .before .before .before .before .before .before .args .links .now) (c .before .before .before .before .before .before .before .before .before .before .before .before .before .before .args .tree .now) (c .before .before .before .before .before .before .before .before .before .before .before .before .before .before .args .p) (c .before .before .before .before .before .before .before .before .before .before .before .before .before .before .args .b) (c .before .before .before .before .before .before .before .before .before .before .before .before .before .before .args .s) (c .before .before .before .before .before .before .before .letter .ensures .1) (c .before .before .before .before .before .before .before .letter .ensures .0) (c .before .before .before .lay .ensures) (c .before .before .before .before .before .before .before .before .before .before .before .before .before .before .pre .past) refl refl refl (⊎-elim (λ x. x .1 ∙ or-yes _ (x .0 .taken)) (λ x. x .2 ∙ or-no _ (x .0 .left)) (c .before .before .before .before .before .before .before .before .before .if1 .came))
+returns c =
+    let laid = c .before .before .before in
+    let lettered = laid .before .before .before .before in
+    let letter = lettered .letter .ensures in
+    let told = lettered .before .before in
+    let asked = told .before .before .before .before .before .args in
+    let past = told .before .before .before .before .before .pre .past in
+    recalled (asked .links .now) (asked .tree .now) (asked .p) (asked .b) (asked .s) (letter .1) (letter .0) (laid .lay .ensures) past refl refl refl (other told)
 
 pub recall-spec : {M : Type 1} → statement M
 recall-spec =

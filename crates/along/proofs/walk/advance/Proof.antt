@@ -19,7 +19,10 @@ load-requires : tie.Need-load-requires
 load-requires c κs = search needs
 
 onward-requires : tie.Need-onward-requires
-onward-requires c κs = (rw (c .before .before .before .before .before .before .letter .ensures .0) (c .before .before .before .before .before .before .before .before .before .before .before .before .pre .0 .linked), c .before .before .before .before .before .before .before .before .before .before .before .before .pre .1)
+onward-requires c κs =
+    let lettered = c .before .before .before .before .before .before in
+    let asked = lettered .before .before .before .before .before .before .pre in
+    (rw (lettered .letter .ensures .0) (asked .0 .linked), asked .1)
 
 also-requires : tie.Need-also-requires
 also-requires c κs = search needs
@@ -28,11 +31,21 @@ same-length : tie.Need-same-length
 same-length c = search needs
 
 returns : tie.Need-returns
-returns c = record {
-  same-keys = c .before .before .before .onward .ensures .same-keys;
-  same-links = c .before .before .before .onward .ensures .same-links;
-  goes = λ e w a k. walk-came w (c .before .before .before .before .before .before .before .before .before .before .before .before .before .before .before .before .pre .0 .left) a k (c .before .before .before .before .before .before .before .load .ensures) (ended-at (c .before .before .before .before .before .before .before .before .before .before .before .before .before .before .before .before .args .text .now) (c .before .before .before .before .before .before .before .before .before .before .before .before .before .before .before .before .args .s .read + 1) (omega (arith, c .before .before .before .before .before .before .before .before .before .before .before .before .before .before .before .before .pre .0 .left))) (c .before .before .before .before .before .before .before .before .before .before .letter .ensures .0) (c .before .before .before .before .before .before .before .before .before .before .letter .ensures .1) (c .before .before .before .onward .ensures) (c .also .ensures);
-}
+returns c =
+    let gone = c .before .before .before in
+    let went = gone .onward .ensures .0 in
+    let goal = gone .before .before .before .before in
+    let lettered = goal .before .before .before in
+    let letter = lettered .letter .ensures in
+    let asked = lettered .before .before .before .before .before .before .args in
+    let left = lettered .before .before .before .before .before .before .pre .0 .left in
+    record {
+      same-keys = went .same-keys;
+      same-links = went .same-links;
+      goes = λ e w a k.
+          let last = ended-at (asked .text .now) (asked .s .read + 1) (omega (arith, left)) in
+          walk-came w left a k (goal .load .ensures) last (letter .0) (letter .1) went (c .also .ensures);
+    }
 
 pub advance-spec : {M : Type 1} → statement M
 advance-spec =

@@ -1,6 +1,7 @@
 -- `along::walk::walk` meets its contract. The loop's invariant: whatever the root holds, the walk has come along i bytes. Assumes nothing.
 use mathlib.Core.Path.{_≡_, refl, _∙_}
-use Prim.Native.Nat.{_-_, _≤_}
+use mathlib.Core.List.{List}
+use Prim.Native.Nat.{ℕ, _-_, _≤_, _<_}
 use native.Mathlib.Omega.{arith}
 use lib.ListN as lists
 use Rattle.meaning.specs.Expression.{Re}
@@ -24,15 +25,43 @@ load-requires : tie.Need-load-requires Inv-loop μ-loop
 load-requires c κs = omega (arith, c .before .before .before .pre .0 .walkable .enough)
 
 enter-requires : tie.Need-enter-requires Inv-loop μ-loop
-enter-requires c κs = (walk-ready (c .before .before .before .before .before .pre .0 .walkable), c .before .before .before .before .before .pre .1 .scanned)
+enter-requires c κs =
+    let asked = c .before .before .before .before .before .pre in
+    (walk-ready (asked .0 .walkable), asked .1 .scanned)
+
+-- what is asked, once the root is entered, of any e that the root may hold
+abbrev Entered : Type 0
+Entered = tie.After-slice-known2 Inv-loop μ-loop
+
+abbrev entry : Entered → tie.Start Inv-loop μ-loop
+entry c = c .before .before .before .before .before .before .before .before
+
+abbrev Asked : Entered → Re → Type 0
+Asked c e = let asked = entry c .args in Walkable e (asked .kind .now) (asked .arg .now) (asked .root) (asked .text .now) (asked .cells .now)
+
+abbrev text-of : Entered → List ℕ
+text-of c = entry c .args .text .now
+
+-- the tree with the row of the way in
+abbrev tree-of : Entered → List ℕ
+tree-of c = c .before .before .enter .last .1 .1 .1 .1 .1 .1 .1 .0
 
 -- the way into the root
-started : (c : tie.After-slice-known2 Inv-loop μ-loop) (e : Re) → Walkable e (c .before .before .before .before .before .before .before .before .args .kind .now) (c .before .before .before .before .before .before .before .before .args .arg .now) (c .before .before .before .before .before .before .before .before .args .root) (c .before .before .before .before .before .before .before .before .args .text .now) (c .before .before .before .before .before .before .before .before .args .cells .now) → Along e (c .before .before .before .before .before .before .before .before .args .text .now) (c .before .before .enter .last .1 .1 .1 .1 .1 .1 .1 .0) (c .before .before .enter .result) 0
-started c e w = walk-start w _ (c .before .before .before .before .load .ensures) (ended-zero (c .before .before .before .before .before .before .before .before .args .text .now)) (c .before .before .enter .ensures)
+started : (c : Entered) (e : Re) → Asked c e → Along e (text-of c) (tree-of c) (c .before .before .enter .result) 0
+started c e w =
+    let way-in = c .before .before in
+    walk-start w _ (way-in .before .before .load .ensures) (ended-zero (text-of c)) (way-in .enter .ensures)
 
 -- how far it has come
-came : (c : tie.At-loop Inv-loop μ-loop) (e : Re) → Walkable e (c .before .before .before .before .before .before .before .before .before .args .kind .now) (c .before .before .before .before .before .before .before .before .before .args .arg .now) (c .before .before .before .before .before .before .before .before .before .args .root) (c .before .before .before .before .before .before .before .before .before .args .text .now) (c .before .before .before .before .before .before .before .before .before .args .cells .now) → Came e (c .before .before .before .before .before .before .before .before .before .args .text .now) (c .loop .keys) (c .loop .links) (c .before .before .before .enter .last .1 .1 .1 .1 .1 .1 .1 .0) (c .loop .tree) (c .before .before .before .enter .result) (c .loop .s) 0 (c .loop .i)
-came c e w = c .loop .inv .1 e w (started ((c .before)) e w)
+came : (c : tie.At-loop Inv-loop μ-loop) (e : Re) → Asked (c .before) e
+    → let now = c .loop in
+    let start = c .before in
+    Came e (text-of start) (now .keys) (now .links) (tree-of start) (now .tree) (start .before .before .enter .result) (now .s) 0 (now .i)
+came c e w = c .loop .inv .1 e w (started (c .before) e w)
+
+-- a byte is left
+more : (c : tie.In-loop Inv-loop μ-loop) → c .before .loop .i < lists.length (text-of (c .before .before))
+more c = omega arith
 
 loop-holds : tie.Need-loop-holds Inv-loop μ-loop
 unfolding rows
@@ -42,38 +71,63 @@ stand-requires : tie.Need-stand-requires Inv-loop μ-loop
 stand-requires c κs = tt
 
 glide-requires : tie.Need-glide-requires Inv-loop μ-loop
-glide-requires c κs = let w = c .before .before .before .before .before .before .before .before .before .before .before .before .before .before .pre .0 .walkable in walk-glides w (c .before .before .before .before .before .before .before .before .before .before .before .before .before .before .pre .1) (came ((c .before .before .before .before .before)) _ w) (omega arith) (c .stand .ensures) (c .before .before .before .before .before .loop .inv .2)
+glide-requires c κs =
+    let here = c .before .before .before .before .before in
+    let asked = entry (here .before) .pre in
+    let w = asked .0 .walkable in
+    walk-glides w (asked .1) (came here _ w) (more (c .before .before .before .before)) (c .stand .ensures) (here .loop .inv .2)
 
 add-i : tie.Need-add-i Inv-loop μ-loop
-add-i c = omega (arith, c .before .before .before .glide .ensures .left, c .before .before .before .before .before .before .before .before .before .before .before .before .before .before .before .before .before .before .pre .0 .walkable .short)
+add-i c =
+    let start = c .before .before .before .before .before .before .before .before .before .before in
+    omega (arith, c .before .before .before .glide .ensures .left, entry start .pre .0 .walkable .short)
 
 advance-requires : tie.Need-advance-requires Inv-loop μ-loop
 advance-requires c κs =
-    let w = c .before .before .before .before .before .before .before .before .before .before .before .before .before .before .before .before .before .before .before .before .before .pre .0 .walkable in
-    let x = walk-glided w (c .before .before .before .before .before .before .before .before .before .before .before .before .before .before .before .before .before .before .before .before .before .pre .1) (came ((c .before .before .before .before .before .before .before .before .before .before .before .before)) _ w) (omega arith) (c .before .before .before .before .before .before .before .stand .ensures) (c .before .before .before .before .before .before .glide .ensures) in
-    (record { linked = walk-linked w (c .before .before .before .before .before .before .glide .ensures .left) (x .along) (c .before .before .before .before .before .before .before .before .before .before .before .before .loop .inv .2) (c .before .before .before .before .before .before .before .before .before .before .before .before .loop .inv .3); left = c .before .before .before .before .before .before .glide .ensures .left; enough = w .enough }, c .before .before .before .before .before .before .before .before .before .before .before .before .before .before .before .before .before .before .before .before .before .pre .1)
+    let glided = c .before .before .before .before .before .before in
+    let gone = glided .glide .ensures in
+    let here = glided .before .before .before .before .before .before in
+    let kept = here .loop .inv in
+    let asked = entry (here .before) .pre in
+    let w = asked .0 .walkable in
+    let x = walk-glided w (asked .1) (came here _ w) (more (glided .before .before .before .before .before)) (glided .before .stand .ensures) gone in
+    (record { linked = walk-linked w (gone .left) (x .along) (kept .2) (kept .3); left = gone .left; enough = w .enough }, asked .1)
 
 loop-less : tie.Need-loop-less Inv-loop μ-loop
-loop-less c = omega (arith, c .before .before .before .before .before .before .before .before .before .before .stand .ensures .read, c .before .before .before .before .before .before .before .before .before .glide .ensures .on, c .before .before .before .before .before .before .before .before .before .glide .ensures .left)
+loop-less c =
+    let glided = c .before .before .before .before .before .before .before .before .before in
+    let gone = glided .glide .ensures in
+    omega (arith, glided .before .stand .ensures .read, gone .on, gone .left)
 
 loop-again : tie.Need-loop-again Inv-loop μ-loop
-loop-again c = (
-  omega (arith, c .before .before .before .before .before .before .before .before .before .glide .ensures .left),
-  λ e w a.
-      let x = walk-glided w (c .before .before .before .before .before .before .before .before .before .before .before .before .before .before .before .before .before .before .before .before .before .before .before .before .pre .1) (c .before .before .before .before .before .before .before .before .before .before .before .before .before .before .before .loop .inv .1 e w a) (omega arith) (c .before .before .before .before .before .before .before .before .before .before .stand .ensures) (c .before .before .before .before .before .before .before .before .before .glide .ensures) in
-      came-then x (c .before .before .advance .ensures .goes e w (x .along) (x .kept)),
-  c .before .before .advance .ensures .same-keys ∙ c .before .before .before .before .before .before .before .before .before .before .before .before .before .before .before .loop .inv .2,
-  c .before .before .advance .ensures .same-links ∙ c .before .before .before .before .before .before .before .before .before .before .before .before .before .before .before .loop .inv .3,
-)
+loop-again c =
+    let on = c .before .before .advance .ensures in
+    let glided = c .before .before .before .before .before .before .before .before .before in
+    let gone = glided .glide .ensures in
+    let here = glided .before .before .before .before .before .before in
+    let came-to = here .loop .inv in
+    let left = more (glided .before .before .before .before .before) in (
+      omega (arith, gone .left),
+      λ e w a.
+          let x = walk-glided w (entry (here .before) .pre .1) (came-to .1 e w a) left (glided .before .stand .ensures) gone in
+          came-then x (on .goes e w (x .along) (x .kept)),
+      on .same-keys ∙ came-to .2,
+      on .same-links ∙ came-to .3,
+    )
 
 ended-requires : tie.Need-ended-requires Inv-loop μ-loop
 ended-requires c κs = tt
 
 same-length : tie.Need-same-length Inv-loop μ-loop
-same-length c = let w = c .before .before .before .before .before .before .before .before .before .before .before .pre .0 .walkable in came ((c .before .before)) _ w .beyond .same-length ∙ start-beyond w (c .before .before .before .before .before .enter .ensures) .same-length
+same-length c =
+    let here = c .before .before in
+    let w = entry (here .before) .pre .0 .walkable in
+    came here _ w .beyond .same-length ∙ start-beyond w (here .before .before .before .enter .ensures) .same-length
 
 returns : tie.Need-returns Inv-loop μ-loop
-returns c = λ e w. walk-end w (start-beyond w (c .before .before .before .before .before .enter .ensures)) (came ((c .before .before)) e w) (omega arith) (c .ended .ensures .0) (c .ended .ensures .1)
+returns c = λ e w.
+    let here = c .before .before in
+    walk-end w (start-beyond w (here .before .before .before .enter .ensures)) (came here e w) (omega arith) (c .ended .ensures .0) (c .ended .ensures .1)
 
 pub walk-spec : {M : Type 1} → statement M
 walk-spec =

@@ -2,7 +2,7 @@
 -- and the memo is right. Assumes nothing.
 use mathlib.Core.Path.{_≡_, refl, _∙_}
 use mathlib.Core.List.{List}
-use Prim.Native.Nat.{ℕ, _-_, _<_}
+use Prim.Native.Nat.{ℕ, _-_, _≤_, _<_}
 use native.Mathlib.Omega.{arith}
 use lib.ListN.{length}
 use Rattle.sets.specs.declared.set.Set.{Set}
@@ -22,6 +22,13 @@ Inv-loop text mask follow cells₀ n pre keys₀ sets₀ i₀ next₀ cells keys
 abbrev μ-loop : tie.MeasureT-loop
 μ-loop text mask follow cells₀ n pre keys₀ sets₀ i₀ next₀ cells keys sets i next = i
 
+-- before the loop: there is a byte, and what is asked
+abbrev begun : tie.At-loop Inv-loop μ-loop → tie.Else1 Inv-loop μ-loop
+begun c = c .before .before .before .before .before .before .before .before .before .before
+
+abbrev entry : tie.Else1 Inv-loop μ-loop → tie.Start Inv-loop μ-loop
+entry c = c .before .before .before .before .before .before .before .before .before .before
+
 empty-requires : tie.Need-empty-requires Inv-loop μ-loop
 empty-requires c κs = tt
 
@@ -33,7 +40,10 @@ unfolding rows
 same-length c = c .before .before .before .store .ensures .same-rows
 
 returns : tie.Need-returns Inv-loop μ-loop
-returns c = going-all _ _ _ _ _ _ _ (c .before .before .before .before .before .empty .ensures) (c .before .before .before .store .ensures) _ _ _ (going-none _ _ _ _ _ _ _ (c .before .before .before .before .before .empty .ensures) (c .before .before .before .store .ensures)) (omega arith)
+returns c =
+    let stored = c .before .before .before .store .ensures in
+    let none = c .before .before .before .before .before .empty .ensures in
+    going-all _ _ _ _ _ _ _ none stored _ _ _ (going-none _ _ _ _ _ _ _ none stored) (omega arith)
 
 reverse-requires : tie.Need-reverse-requires Inv-loop μ-loop
 unfolding rows
@@ -46,10 +56,14 @@ shared-slice-read-load : tie.Need-shared-slice-read-load Inv-loop μ-loop
 shared-slice-read-load c = omega arith
 
 cast-load : tie.Need-cast-load Inv-loop μ-loop
-cast-load c = omega (arith, c .shared-slice-known4 .given (length (c .before .before .before .before .before .before .before .before .before .before .before .before .before .args .text .now) - 1))
+cast-load c =
+    let text = c .before .before .before .before .before .before .before .before .before .before .before .before .before .args .text .now in
+    omega (arith, c .shared-slice-known4 .given (length text - 1))
 
 load-requires : tie.Need-load-requires Inv-loop μ-loop
-load-requires c κs = omega (arith, c .before .before .before .before .before .before .before .before .before .before .before .before .before .pre, c .shared-slice-known4 .given (length (c .before .before .before .before .before .before .before .before .before .before .before .before .before .args .text .now) - 1))
+load-requires c κs =
+    let asked = c .before .before .before .before .before .before .before .before .before .before .before .before .before in
+    omega (arith, asked .pre, c .shared-slice-known4 .given (length (asked .args .text .now) - 1))
 
 meet-requires : tie.Need-meet-requires Inv-loop μ-loop
 meet-requires c κs = tt
@@ -66,44 +80,76 @@ sub-i-2 c = omega arith
 
 slice-aggregate-recall : tie.Need-slice-aggregate-recall Inv-loop μ-loop
 unfolding rows
-slice-aggregate-recall c = omega (arith, c .before .before .before .before .before .before .before .before .before .before .reverse .ensures .same-rows)
+slice-aggregate-recall c =
+    let reversed = c .before .before .before .before .before .before .before .before .before .before .reverse .ensures in
+    omega (arith, reversed .same-rows)
 
 shared-slice-read-recall : tie.Need-shared-slice-read-recall Inv-loop μ-loop
 shared-slice-read-recall c = omega (arith, c .before .before .before .before .before .loop .inv .0)
 
 recall-requires : tie.Need-recall-requires Inv-loop μ-loop
 unfolding rows
-recall-requires c κs = (c .before .before .before .before .before .before .before .before .before .before .before .before .before .before .before .before .before .before .before .before .before .before .before .before .before .pre .0, omega (arith, c .before .before .before .before .before .before .before .before .before .before .before .before .before .reverse .ensures .same-rows), c .before .before .before .before .before .loop .inv .2)
+recall-requires c κs =
+    let here = c .before .before .before .before .before in
+    (entry (begun here) .pre .0, omega (arith, here .before .before .before .before .before .before .before .before .reverse .ensures .same-rows), here .loop .inv .2)
+
+-- as many cells as there were
+same-cells : (c : tie.At-loop Inv-loop μ-loop) → rows (c .loop .cells) ≡ rows (entry (begun c) .args .cells .now)
+same-cells c =
+    let first = c .before .before .before in
+    let ended = first .before .before .before .before .before .before .before .before .before .before .store .ensures in
+    c .loop .inv .1 ∙ first .store2 .ensures .same-rows ∙ ended .same-rows
 
 store-requires-3 : tie.Need-store-requires-3 Inv-loop μ-loop
-store-requires-3 c κs = omega (arith, c .before .before .before .before .before .before .before .before .before .before .before .before .before .before .before .before .before .before .before .before .before .before .before .before .before .before .before .pre .2, c .before .before .before .before .before .before .before .loop .inv .0, c .before .before .before .before .before .before .before .loop .inv .1, c .before .before .before .before .before .before .before .before .before .before .before .before .before .before .before .before .before .before .before .before .store .ensures .same-rows, c .before .before .before .before .before .before .before .before .before .before .store2 .ensures .same-rows)
+store-requires-3 c κs =
+    let here = c .before .before .before .before .before .before .before in
+    omega (arith, entry (begun here) .pre .2, here .loop .inv .0, same-cells here)
 
 loop-less : tie.Need-loop-less Inv-loop μ-loop
 loop-less c = omega arith
 
+-- a byte is left
+more : (c : tie.In-loop Inv-loop μ-loop) → 0 < c .before .loop .i
+more c = omega arith
+
 loop-again : tie.Need-loop-again Inv-loop μ-loop
 loop-again c =
-    let l = c .before .before .before .before .before .before .before .before .before .before .loop in
-    let found = c .before .before .before .before .recall in (
-      omega (arith, l .inv .0),
-      c .before .before .store3 .ensures .same-rows ∙ l .inv .1,
-      found .ensures .memo,
+    let kept = c .before .before .store3 .ensures in
+    let found = c .before .before .before .before in
+    let here = found .before .before .before .before .before .before in
+    let turn = here .loop in
+    let left = more (found .before .before .before .before .before) in
+    let reversed = here .before .before .before .before .before .before .before .before .reverse .ensures in (
+      omega (arith, turn .inv .0),
+      kept .same-rows ∙ turn .inv .1,
+      found .recall .ensures .memo,
       λ ends k G.
-          going-more _ _ _ _ _ (l .cells) _ (l .next) (found .result) (l .i) (l .inv .3 ends k G) (omega arith)
-          (made-more _ _ _ _ _ _ (l .next) _ _ (l .i) (zeros-empty 64) (c .before .before .before .before .before .before .before .before .before .before .before .before .before .before .before .before .before .before .reverse .ensures) (l .inv .0) (found .ensures .found)) (c .before .before .store3 .ensures),
+          going-more _ _ _ _ _ (turn .cells) _ (turn .next) (found .recall .result) (turn .i) (turn .inv .3 ends k G) left
+          (made-more _ _ _ _ _ _ (turn .next) _ _ (turn .i) (zeros-empty 64) reversed (turn .inv .0) (found .recall .ensures .found)) kept,
     )
 
 same-length-2 : tie.Need-same-length-2 Inv-loop μ-loop
 unfolding rows
-same-length-2 c = c .before .loop .inv .1 ∙ c .before .before .before .before .store2 .ensures .same-rows ∙ c .before .before .before .before .before .before .before .before .before .before .before .before .before .before .store .ensures .same-rows
+same-length-2 c = same-cells (c .before)
+
+-- there is a last byte
+some : (c : tie.Else1 Inv-loop μ-loop) → 0 < length (entry c .args .text .now)
+some c = omega arith
+
+-- and the loop ends before the first
+done : (c : tie.After-loop Inv-loop μ-loop) → c .before .loop .i ≤ 0
+done c = omega arith
 
 returns-2 : tie.Need-returns-2 Inv-loop μ-loop
 returns-2 c =
-    let none = c .before .before .before .before .before .before .before .before .before .before .before .before .before .before .before .before .empty in
-    let end = c .before .before .before .before .before .before .before .before .before .before .before .before .before .before .store in
-    going-all _ _ _ _ _ _ _ (none .ensures) (end .ensures) _ _ _
-    (c .before .loop .inv .3 _ _ (going-last _ _ _ _ _ _ _ (none .ensures) (end .ensures) _ _ _ (omega arith) (c .before .before .before .before .before .before .before .load .ensures) (c .before .before .before .before .before .before .meet .ensures) (c .before .before .before .before .store2 .ensures)))
-    (omega arith)
+    let here = c .before in
+    let first = here .before .before .before in
+    let stored = first .before .before .before .before .before .before .before .before .before .before .store .ensures in
+    let none = first .before .before .before .before .before .before .before .before .before .before .before .before .empty .ensures in
+    let met = first .before .before in
+    going-all _ _ _ _ _ _ _ none stored _ _ _
+    (here .loop .inv .3 _ _ (going-last _ _ _ _ _ _ _ none stored _ _ _ (some (begun here)) (met .before .load .ensures) (met .meet .ensures) (first .store2 .ensures)))
+    (done c)
 
 pub backward-spec : {M : Type 1} → statement M
 backward-spec =

@@ -14,7 +14,11 @@ load-requires-2 : tie.Need-load-requires-2
 load-requires-2 c κs = search needs
 
 returns : tie.Need-returns
-returns c = recalled-known _ _ _ _ _ _ (c .before .before .before .before .before .before .before .before .before .before .pre .2) _ _ (c .before .before .before .before .before .load .ensures) (c .before .before .before .before .same .ensures (c .before .before .before .if1 .taken)) (c .load2 .ensures)
+returns c =
+    let compared = c .before .before .before .before in
+    let memo = compared .before .before .before .before .before .before .pre .2 in
+    let alike = compared .same .ensures .0 (c .before .before .before .if1 .taken) in
+    recalled-known _ _ _ _ _ _ memo _ _ (compared .before .load .ensures) alike (c .load2 .ensures)
 
 back-requires : tie.Need-back-requires
 back-requires c κs = search needs
@@ -26,7 +30,10 @@ store-requires-2 : tie.Need-store-requires-2
 store-requires-2 c κs = search needs
 
 returns-2 : tie.Need-returns-2
-returns-2 c = recalled-new _ _ _ _ _ _ (c .before .before .before .before .before .before .before .before .before .before .before .before .pre .2) _ _ _ (c .before .before .before .before .back .ensures) (c .before .before .store .ensures) (c .store2 .ensures)
+returns-2 c =
+    let found = c .before .before .before .before in
+    let memo = found .before .before .before .before .before .before .before .before .pre .2 in
+    recalled-new _ _ _ _ _ _ memo _ _ _ (found .back .ensures) (c .before .before .store .ensures) (c .store2 .ensures)
 
 pub recall-spec : {M : Type 1} → statement M
 recall-spec =

@@ -1,16 +1,15 @@
 -- `passes::masks::masks` meets its contract. The loop's invariant: the positions joined the rows of the bytes in the words before word i.
 -- Assumes nothing.
-use mathlib.Core.Path.{_≡_, refl, sym, ap, _∙_}
-use mathlib.Core.Bool.{Bool, _||_, or-false}
-use Prim.Native.Nat.{ℕ, _*_, _-_, _<_, _≤_}
+use mathlib.Core.Path.{_≡_}
+use Prim.Native.Nat.{_*_, _-_, _≤_}
 use native.Mathlib.Omega.{arith}
-use Rattle.sets.specs.Members.{has, row, rows}
-use Rattle.passes.proofs.Upto.{upto, upto-none, upto-all, upto-noted}
+use Rattle.sets.specs.Members.{rows}
+use Rattle.passes.proofs.Upto.{Brought, brought-none, brought-more, brought-all}
 use Rattle.passes.proofs.masks.masks.Statement.{statement}
 use Rattle.passes.proofs.masks.masks.Tie as tie
 
 abbrev Inv-loop : tie.InvT-loop
-Inv-loop class positions mask₀ end i₀ mask i = (i ≤ 4 * positions) × (rows mask ≡ rows mask₀) × ((b q : ℕ) → b < 256 → has (row mask b) q ≡ (has (row mask₀ b) q || upto class i q b))
+Inv-loop class positions mask₀ end i₀ mask i = (i ≤ 4 * positions) × Brought class i mask₀ mask
 
 abbrev μ-loop : tie.MeasureT-loop
 μ-loop class positions mask₀ end i₀ mask i = 4 * positions - i
@@ -19,7 +18,7 @@ mul-end : tie.Need-mul-end Inv-loop μ-loop
 mul-end c = omega arith
 
 loop-holds : tie.Need-loop-holds Inv-loop μ-loop
-loop-holds c = (omega arith, refl, λ b q h. sym (ap (λ (t : Bool). has (row (c .before .args .mask .now) b) q || t) (upto-none (c .before .args .class .now) q b h) ∙ or-false _))
+loop-holds c = (omega arith, brought-none _ _)
 
 mul-note : tie.Need-mul-note Inv-loop μ-loop
 mul-note c = omega arith
@@ -38,21 +37,20 @@ loop-less c = omega arith
 
 loop-again : tie.Need-loop-again Inv-loop μ-loop
 loop-again c =
-    let l = c .before .before .before .before .before .before .loop in
-    (omega arith, c .before .before .note .ensures .same-rows ∙ l .inv .1, λ b q h. upto-noted (c .before .before .before .before .before .before .before .before .args .class .now) q b h _ (l .mask) _ (l .i) (c .before .before .note .ensures) (l .inv .2 b q h))
+    let noted = c .before .before in
+    let turn = noted .before .before .before .before .loop in
+    (omega arith, brought-more _ (turn .i) (turn .inv .1) (noted .note .ensures))
 
 same-length : tie.Need-same-length Inv-loop μ-loop
 unfolding rows
-same-length c = c .before .loop .inv .1
+same-length c = c .before .loop .inv .1 .same-rows
 
 returns : tie.Need-returns Inv-loop μ-loop
 returns c =
-    let l = c .before .loop in
-    let z : l .i ≡ 4 * c .before .before .before .args .positions = omega arith in
-    record {
-      same-rows = l .inv .1;
-      joins = λ b q h. l .inv .2 b q h ∙ ap (λ (t : Bool). has (row (c .before .before .before .args .mask .now) b) q || t) (ap (λ (n : ℕ). upto (c .before .before .before .args .class .now) n q b) z ∙ upto-all (c .before .before .before .args .class .now) q b h (c .before .before .before .args .positions));
-    }
+    let last = c .before in
+    let positions = last .before .before .args .positions in
+    let end : last .loop .i ≡ 4 * positions = omega arith in
+    brought-all _ positions (rw end at (last .loop .inv .1))
 
 pub masks-spec : {M : Type 1} → statement M
 masks-spec =

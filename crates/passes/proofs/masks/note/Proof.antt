@@ -54,11 +54,12 @@ loop-less c = lowest-less (c .before .before .before .before .before .before .be
 
 loop-again : tie.Need-loop-again Inv-loop μ-loop
 loop-again c =
-    let l = c .before .before .before .before .before .before .before .before .loop in (
-      c .before .before .store .ensures .same-rows ∙ l .inv .0,
-      omega (arith, lowest-less (l .left) (omega arith)),
-      λ b p. noted-more (l .left) (c .before .before .before .before .before .before .before .before .before .before .args .w) (omega arith) (omega arith) (c .before .before .before .before .before .before .before .before .before .before .args .q) _ _ _ _ (c .before .before .before .before .before .load .ensures) (c .before .before .before .before .with .ensures) (c .before .before .store .ensures) b p ∙ l .inv .2 b p,
-    )
+    let stored = c .before .before in
+    let turn = stored .before .before .before .before .before .before .loop in
+    let asked = stored .before .before .before .before .before .before .before .before .args in
+    let kept = stored .store .ensures in
+    let more = noted-more (turn .left) (asked .w) (omega arith) (omega arith) (asked .q) _ _ _ _ (stored .before .before .before .load .ensures) (stored .before .before .with .ensures) kept in
+    (kept .same-rows ∙ turn .inv .0, omega (arith, lowest-less (turn .left) (omega arith)), λ b p. more b p ∙ turn .inv .2 b p)
 
 same-length : tie.Need-same-length Inv-loop μ-loop
 unfolding rows
@@ -69,10 +70,13 @@ ended : (m : List ℕ) (x w b p q : ℕ) → x ≡ 0 → (has (row m b) p || (in
 ended m x w b p q e = rw (e, in-none w b, or-false (has (row m b) p))
 
 returns : tie.Need-returns Inv-loop μ-loop
-returns c = record {
-  same-rows = c .before .loop .inv .0;
-  joins = λ b p. sym (ended (c .before .loop .mask) (c .before .loop .left) (c .before .before .before .args .w) b p (c .before .before .before .args .q) (omega arith)) ∙ c .before .loop .inv .2 b p;
-}
+returns c =
+    let here = c .before .loop in
+    let asked = c .before .before .before .args in
+    record {
+      same-rows = here .inv .0;
+      joins = λ b p. sym (ended (here .mask) (here .left) (asked .w) b p (asked .q) (omega arith)) ∙ here .inv .2 b p;
+    }
 
 pub note-spec : {M : Type 1} → statement M
 note-spec =

@@ -2,7 +2,7 @@
 -- Assumes nothing.
 use mathlib.Core.Path.{_≡_, sym, ap, _∙_}
 use mathlib.Core.Bool.{_&&_}
-use Prim.Native.Nat.{ℕ, _+_, _-_, _≤_}
+use Prim.Native.Nat.{ℕ, _+_, _-_, _≤_, _<_}
 use native.Mathlib.Omega.{arith}
 use native.Mathlib.Nat.{zero-add, add-zero}
 use lib.ListN.{length, drop, getD}
@@ -37,13 +37,27 @@ meet-requires c κs = tt
 is-empty-requires : tie.Need-is-empty-requires Inv-loop μ-loop
 is-empty-requires c κs = tt
 
--- the positions that read the byte at i
-reading : (c : tie.After-meet Inv-loop μ-loop) (q : ℕ) → has (c .meet .result) q ≡ (has (c .before .before .before .before .loop .next) q && has (row (c .before .before .before .before .before .before .before .before .args .mask .now) (getD (c .before .before .before .before .before .before .before .before .args .text .now) (c .before .before .before .before .loop .i) 0)) q)
+-- a byte is left
+inside : (c : tie.In-loop Inv-loop μ-loop) → c .before .loop .i < length (c .before .before .before .before .before .args .text .now)
+inside c = omega arith
+
+-- the positions that read it
+reading : (c : tie.After-meet Inv-loop μ-loop) (q : ℕ)
+    → let now = c .before .before .before .before .loop in
+    let asked = c .before .before .before .before .before .before .before .before .args in
+    has (c .meet .result) q ≡ (has (now .next) q && has (row (asked .mask .now) (getD (asked .text .now) (now .i) 0)) q)
 reading c q = c .meet .ensures q ∙ ap (λ (s : Set). has (c .before .before .before .before .loop .next) q && has s q) (c .before .load .ensures)
 
 returns : tie.Need-returns Inv-loop μ-loop
 returns c =
-    sym (c .before .before .before .before .before .before .loop .inv .1 ∙ ap (λ (n : ℕ). c .before .before .before .before .before .before .loop .i + n) (readable-stops (c .before .before .before .before .before .before .before .before .before .before .args .mask .now) (c .before .before .before .before .before .before .before .before .before .before .args .follow .now) (c .before .before .before .before .before .before .before .before .before .before .args .text .now) (has (c .before .before .before .before .before .before .loop .next)) (c .before .before .before .before .before .before .loop .i) (omega arith) (c .before .before .meet .result) (reading (c .before .before)) (sym (c .before .is-empty .ensures) ∙ c .if1 .taken)) ∙ add-zero _)
+    let read = c .before .before in
+    let turn = read .before .before .before .before .loop in
+    let asked = read .before .before .before .before .before .before .before .before .args in
+    let none = sym (c .before .is-empty .ensures) ∙ c .if1 .taken in
+    let stops =
+    readable-stops (asked .mask .now) (asked .follow .now) (asked .text .now) (has (turn .next)) (turn .i) (inside (read .before .before .before)) (read .meet .result)
+    (reading read) none in
+    sym (turn .inv .1 ∙ ap (λ (n : ℕ). turn .i + n) stops ∙ add-zero _)
 
 after-requires : tie.Need-after-requires Inv-loop μ-loop
 after-requires c κs = omega (arith, c .before .before .before .before .before .before .before .before .before .before .pre)
@@ -56,15 +70,22 @@ loop-less c = omega arith
 
 loop-again : tie.Need-loop-again Inv-loop μ-loop
 loop-again c =
+    let read = c .before .before .before in
+    let turn = read .before .before .before .before .loop in
+    let asked = read .before .before .before .before .before .before .before .before .args in
+    let left = inside (read .before .before .before) in
+    let some = sym (c .before .before .is-empty .ensures) ∙ c .before .if1 .left in
     let more =
-    readable-more (c .before .before .before .before .before .before .before .before .before .before .before .args .mask .now) (c .before .before .before .before .before .before .before .before .before .before .before .args .follow .now) (c .before .before .before .before .before .before .before .before .before .before .before .args .text .now) (has (c .before .before .before .before .before .before .before .loop .next)) (c .before .before .before .before .before .before .before .loop .i) (omega arith) (c .before .before .before .meet .result) (reading (c .before .before .before))
-    (sym (c .before .before .is-empty .ensures) ∙ c .before .if1 .left) (c .after .result) (c .after .ensures) in
-    (omega arith, omega (arith, more, c .before .before .before .before .before .before .before .loop .inv .1))
+    readable-more (asked .mask .now) (asked .follow .now) (asked .text .now) (has (turn .next)) (turn .i) left (read .meet .result) (reading read) some
+    (c .after .result) (c .after .ensures) in
+    (omega arith, omega (arith, more, turn .inv .1))
 
 returns-2 : tie.Need-returns-2 Inv-loop μ-loop
 returns-2 c =
-    let end = readable-end (c .before .before .before .before .before .args .mask .now) (c .before .before .before .before .before .args .follow .now) (c .before .before .before .before .before .args .text .now) (has (c .before .loop .next)) (c .before .loop .i) (omega arith) in
-    omega (arith, end, c .before .loop .inv .1)
+    let turn = c .before .loop in
+    let asked = c .before .before .before .before .before .args in
+    let end = readable-end (asked .mask .now) (asked .follow .now) (asked .text .now) (has (turn .next)) (turn .i) (omega arith) in
+    omega (arith, end, turn .inv .1)
 
 pub place-spec : {M : Type 1} → statement M
 place-spec =

@@ -35,10 +35,17 @@ first-requires-2 : tie.Need-first-requires-2 Inv-loop μ-loop
 first-requires-2 c κs = tt
 
 loop-less : tie.Need-loop-less Inv-loop μ-loop
-loop-less c = without-fewer _ _ (c .before .before .before .before .before .before .before .before .before .loop .p) (c .before .without .ensures) (c .before .before .before .before .before .before .before .before .before .loop .inv .least .here (c .before .before .before .before .before .before .before .before .loop-test .taken))
+loop-less c =
+    let turn = c .before .before .before .before .before .before .before .before in
+    let here = turn .before .loop in
+    without-fewer _ _ (here .p) (c .before .without .ensures) (here .inv .least .here (turn .loop-test .taken))
 
 loop-again : tie.Need-loop-again Inv-loop μ-loop
-loop-again c = joining-more _ _ _ _ _ (c .before .before .before .before .before .before .before .before .before .loop .inv) (c .before .before .before .before .before .before .before .before .loop-test .taken) (c .before .before .before .before .before .load .ensures) (c .before .before .before .before .with .ensures) (c .before .before .store .ensures) (c .before .without .ensures) (c .first2 .ensures)
+loop-again c =
+    let stored = c .before .before in
+    let turn = stored .before .before .before .before .before .before in
+    joining-more _ _ _ _ _ (turn .before .loop .inv) (turn .loop-test .taken) (stored .before .before .before .load .ensures) (stored .before .before .with .ensures) (stored .store .ensures)
+    (c .before .without .ensures) (c .first2 .ensures)
 
 returns : tie.Need-returns Inv-loop μ-loop
 returns c = joining-all _ _ _ (c .before .loop .inv) (omega arith)

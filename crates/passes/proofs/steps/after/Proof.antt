@@ -39,19 +39,28 @@ first-requires-2 : tie.Need-first-requires-2 Inv-loop μ-loop
 first-requires-2 c κs = tt
 
 loop-less : tie.Need-loop-less Inv-loop μ-loop
-loop-less c = without-fewer _ _ (c .before .before .before .before .before .loop .q) (c .before .without .ensures) (c .before .before .before .before .before .loop .inv .0 .here (c .before .before .before .before .loop-test .taken))
+loop-less c =
+    let turn = c .before .before .before .before in
+    let here = turn .before .loop in
+    without-fewer _ _ (here .q) (c .before .without .ensures) (here .inv .0 .here (turn .loop-test .taken))
 
 loop-again : tie.Need-loop-again Inv-loop μ-loop
-loop-again c = (
-  c .first2 .ensures,
-  λ k.
-      let more = joined-more (c .before .before .before .before .before .loop .left) (c .before .without .result) (c .before .before .before .before .before .loop .q) (c .before .before .before .before .before .loop .inv .0 .here (c .before .before .before .before .loop-test .taken)) (c .before .without .ensures) _ k in
-      rw (c .before .before .union .ensures k, c .before .before .before .load .ensures) (or-assoc (has (c .before .before .before .before .before .loop .found) k) _ _ ∙ ap (λ (t : Bool). has (c .before .before .before .before .before .loop .found) k || t) (sym more) ∙ c .before .before .before .before .before .loop .inv .1 k),
-)
+loop-again c =
+    let rest = c .before .without in
+    let turn = c .before .before .before .before in
+    let here = turn .before .loop in (
+      c .first2 .ensures,
+      λ k.
+          let more = joined-more (here .left) (rest .result) (here .q) (here .inv .0 .here (turn .loop-test .taken)) (rest .ensures) _ k in
+          let regrouped = or-assoc (has (here .found) k) _ _ ∙ ap (λ (t : Bool). has (here .found) k || t) (sym more) in
+          rw (c .before .before .union .ensures k, c .before .before .before .load .ensures) (regrouped ∙ here .inv .1 k),
+    )
 
 returns : tie.Need-returns Inv-loop μ-loop
-returns c =
-    λ k. sym (or-false _) ∙ ap (λ (t : Bool). has (c .before .loop .found) k || t) (sym (joined-none (c .before .loop .left) (least-none _ _ (c .before .loop .inv .0) (omega arith)) _ k)) ∙ c .before .loop .inv .1 k
+returns c = λ k.
+    let here = c .before .loop in
+    let none = joined-none (here .left) (least-none _ _ (here .inv .0) (omega arith)) _ k in
+    sym (or-false _) ∙ ap (λ (t : Bool). has (here .found) k || t) (sym none) ∙ here .inv .1 k
 
 pub after-spec : {M : Type 1} → statement M
 after-spec =

@@ -6,10 +6,14 @@ use Rattle.readings.proofs.asked.first_bytes.Statement.{statement}
 use Rattle.readings.proofs.asked.first_bytes.Tie as tie
 
 slice-aggregate-judged : tie.Need-slice-aggregate-judged
-slice-aggregate-judged c = omega (arith, length-take (c .before .before .before .before .before .args .m) (c .before .before .before .before .before .args .pattern .now))
+slice-aggregate-judged c =
+    let asked = c .before .before .before .before .before .args in
+    omega (arith, length-take (asked .m) (asked .pattern .now))
 
 slice-aggregate-judged-2 : tie.Need-slice-aggregate-judged-2
-slice-aggregate-judged-2 c = omega (arith, length-take (c .before .before .before .before .before .before .args .n) (c .before .before .before .before .before .before .args .text .now))
+slice-aggregate-judged-2 c =
+    let asked = c .before .before .before .before .before .before .args in
+    omega (arith, length-take (asked .n) (asked .text .now))
 
 judged-requires : tie.Need-judged-requires
 judged-requires c κs = search needs

@@ -9,13 +9,17 @@ slice-relend-prefix-answer : tie.Need-slice-relend-prefix-answer
 slice-relend-prefix-answer c = search needs
 
 slice-aggregate-answer : tie.Need-slice-aggregate-answer
-slice-aggregate-answer c = omega (arith, length-take (c .before .before .before .before .before .before .before .args .cells) (c .before .before .before .before .before .before .before .args .work .now))
+slice-aggregate-answer c =
+    let asked = c .before .before .before .before .before .before .before .args in
+    omega (arith, length-take (asked .cells) (asked .work .now))
 
 slice-relend-prefix-answer-2 : tie.Need-slice-relend-prefix-answer-2
 slice-relend-prefix-answer-2 c = search needs
 
 slice-aggregate-answer-2 : tie.Need-slice-aggregate-answer-2
-slice-aggregate-answer-2 c = omega (arith, length-take (c .before .before .before .before .before .before .before .before .args .tokens) (c .before .before .before .before .before .before .before .before .args .room .now))
+slice-aggregate-answer-2 c =
+    let asked = c .before .before .before .before .before .before .before .before .args in
+    omega (arith, length-take (asked .tokens) (asked .room .now))
 
 answer-requires : tie.Need-answer-requires
 answer-requires c κs = search needs

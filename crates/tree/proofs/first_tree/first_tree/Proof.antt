@@ -17,7 +17,9 @@ same-length-2 : tie.Need-same-length-2
 same-length-2 c = search needs
 
 returns : tie.Need-returns
-returns c = answered-as (c .before .before .before .before .before .search .result) (c .told .ensures) (c .before .before .before .before .before .search .ensures)
+returns c =
+    let found = c .before .before .before .before .before .search in
+    answered-as (found .result) (c .told .ensures) (found .ensures)
 
 pub first-tree-spec : {M : Type 1} → statement M
 first-tree-spec =

@@ -45,17 +45,22 @@ loop-less c = omega arith
 
 loop-again : tie.Need-loop-again Inv-loop μ-loop
 loop-again c =
-    let row = c .before .before .before .before .before .before .before .before .args .row .now in
-    let i = c .before .before .before .before .loop .i in
+    let turn = c .before .before .before .before in
+    let row = turn .before .before .before .before .args .row .now in
+    let mark = turn .before .before .before .before .args .mark in
+    let i = turn .loop .i in
+    let so-far = turn .loop .inv .2 in
+    let read = c .before .wide .ensures in
     ⊎-elim
-    (λ w. let e = count-here (c .before .before .before .before .before .before .before .before .args .mark) row i (omega arith) (sym (c .before .wide .ensures) ∙ w .0 .taken) in (omega arith, omega (arith, w .1), omega (arith, e, w .1, c .before .before .before .before .loop .inv .2)))
-    (λ w. let e = count-past (c .before .before .before .before .before .before .before .before .args .mark) row i (omega arith) (λ z. w .0 .left (c .before .wide .ensures ∙ z)) in (omega arith, omega (arith, w .1), omega (arith, e, w .1, c .before .before .before .before .loop .inv .2)))
+    (λ w. let e = count-here mark row i (omega arith) (sym read ∙ w .0 .taken) in (omega arith, omega (arith, w .1), omega (arith, e, w .1, so-far)))
+    (λ w. let e = count-past mark row i (omega arith) (λ z. w .0 .left (read ∙ z)) in (omega arith, omega (arith, w .1), omega (arith, e, w .1, so-far)))
     (c .if3 .came)
 
 returns-3 : tie.Need-returns-3 Inv-loop μ-loop
 returns-3 c =
     let l = c .before .loop in
-    let e = count-end (c .before .before .before .before .before .args .mark) (c .before .before .before .before .before .args .row .now) (l .i) (omega arith) in
+    let asked = c .before .before .before .before .before .args in
+    let e = count-end (asked .mark) (asked .row .now) (l .i) (omega arith) in
     counted-as (l .n) (omega arith) (omega arith) (omega (arith, e, l .inv .2))
 
 pub turns-spec : {M : Type 1} → statement M

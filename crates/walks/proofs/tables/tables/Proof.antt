@@ -1,5 +1,5 @@
 -- `walks::tables::tables` meets its contract. Assumes nothing.
-use Rattle.walks.proofs.Rooted.{root-held, root-known, root-scanned, root-tabled}
+use Rattle.walks.proofs.Rooted.{root-held, root-known, root-scanned, root-tabled, root-spared}
 use borrow.Author.Needs.{needs}
 use Rattle.walks.proofs.tables.tables.Statement.{statement}
 use Rattle.walks.proofs.tables.tables.Tie as tie
@@ -9,33 +9,30 @@ may-be-empty-requires c κs = (root-held (c .before .pre .0), c .before .pre .1 
 
 opens-first-requires : tie.Need-opens-first-requires
 opens-first-requires c κs =
-    let scanned = c .before .before .before in
-    let entry = scanned .before .before in
-    let asked = entry .pre in
-    (root-held (asked .0), (root-known (asked .0) (scanned .may-be-empty .ensures), (asked .1 .1 .0, asked .1 .1 .1 .0)))
+    let passed = c .before .before .before in
+    let s = passed .before .before .pre in
+    (root-held (s .0), (root-known (s .0) (passed .may-be-empty .ensures), (s .1 .1 .0, s .1 .1 .1 .0)))
 
 empty-requires : tie.Need-empty-requires
 empty-requires c κs = search needs
 
 may-follow-requires : tie.Need-may-follow-requires
 may-follow-requires c κs =
-    let begun = c .before .before .before .before in
-    let scanned = begun .before .before .before .before in
-    let entry = scanned .before .before in
-    let asked = entry .pre in
-    let tables = root-scanned (asked .0) (scanned .may-be-empty .ensures) (begun .opens-first .ensures .0) (asked .1 .1 .0) in
-    (root-held (asked .0), (tables, asked .1 .1 .1 .1))
+    let opened = c .before .before .before .before in
+    let passed = opened .before .before .before .before in
+    let s = passed .before .before .pre in
+    (root-held (s .0), (root-scanned (s .0) (passed .may-be-empty .ensures) (opened .opens-first .ensures .0) (s .1 .1 .0), s .1 .1 .1 .1))
 
 returns : tie.Need-returns
 returns c =
-    let cleared = c .before .before .before .before in
-    let begun = cleared .before in
-    let scanned = begun .before .before .before .before in
-    let entry = scanned .before .before in
-    let asked = entry .pre in
-    let tables = root-scanned (asked .0) (scanned .may-be-empty .ensures) (begun .opens-first .ensures .0) (asked .1 .1 .0) in
-    let ends = root-known (asked .0) (begun .opens-first .ensures .1) in
-    root-tabled (asked .0) tables ends (asked .1 .1 .1 .1) (cleared .empty .ensures) (c .may-follow .ensures)
+    let opened = c .before .before .before .before .before in
+    let passed = opened .before .before .before .before in
+    let s = passed .before .before .pre in
+    let nulls = passed .may-be-empty .ensures in
+    let firsts = opened .opens-first .ensures .0 in
+    let ends = opened .opens-first .ensures .1 in
+    let scanned = root-scanned (s .0) nulls firsts (s .1 .1 .0) in
+    (root-tabled (s .0) scanned (root-known (s .0) ends) (s .1 .1 .1 .1) (c .before .before .before .before .empty .ensures) (c .may-follow .ensures), root-spared (s .0) nulls firsts ends (c .may-follow .ensures))
 
 pub tables-spec : {M : Type 1} → statement M
 tables-spec =
