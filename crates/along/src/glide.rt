@@ -63,14 +63,17 @@ fn eight(tree: &mut [u16], from: usize, at: usize)
     tree[at + 7] = h;
 }
 
-// Copies as `copy` does, and may spoil the `spare` tokens behind the row: eight tokens at once are faster than a few by one.
+// Copies as `copy` does, and may spoil the `spare` tokens behind the row: eight tokens at once are faster than a few by one. Where there is
+// no room at all, as when a row is only measured, nothing is begun.
 fn lay(tree: &mut [u16], from: usize, long: usize, at: usize, spare: usize)
     requires { ⌜ (from + long ≤ at) × (at + long + 8 < 2 ^ 64) ⌝ }
     ensures { λ _. ⌜ Laid (now (tree .entry)) (now (tree .exit)) from long at spare ⌝ }
 {
     if long <= 8 && 8 <= spare && at + 8 <= tree.len() {
         eight(tree, from, at);
-    } else {
+        return;
+    }
+    if at < tree.len() {
         copy(tree, from, long, at);
     }
 }
