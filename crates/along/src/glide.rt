@@ -69,7 +69,7 @@ fn lay(tree: &mut [u16], from: usize, long: usize, at: usize, spare: usize)
     requires { ⌜ (from + long ≤ at) × (at + long + 8 < 2 ^ 64) ⌝ }
     ensures { λ _. ⌜ Laid (now (tree .entry)) (now (tree .exit)) from long at spare ⌝ }
 {
-    if long <= 8 && 8 <= spare && at + 8 <= tree.len() {
+    if at + 8 <= tree.len() && long <= 8 && 8 <= spare {
         eight(tree, from, at);
         return;
     }

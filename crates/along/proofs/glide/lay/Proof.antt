@@ -6,8 +6,8 @@ use borrow.Author.Needs.{needs}
 use Rattle.along.proofs.glide.lay.Statement.{statement}
 use Rattle.along.proofs.glide.lay.Tie as tie
 
-add-if3 : tie.Need-add-if3
-add-if3 c = search needs
+add-if1 : tie.Need-add-if1
+add-if1 c = search needs
 
 eight-requires : tie.Need-eight-requires
 eight-requires c κs = omega (arith, leb-true, c .before .before .before .before .before .pre)
@@ -34,7 +34,7 @@ pub lay-spec : {M : Type 1} → statement M
 lay-spec =
     tie.close
     (tie.spec
-    add-if3
+    add-if1
     eight-requires
     same-length
     returns
