@@ -13,7 +13,9 @@ fn back(mask: &[u64], pre: &[u64], b: usize, next: Set) -> Set
     requires { ⌜ (b < rows (now mask)) × (limit ≤ rows (now pre)) ⌝ }
     ensures { λ r. ⌜ ((q : ℕ) → has r q ≡ leading (now (mask .entry)) (now (pre .entry)) b (has next) q) ⌝ }
 {
-    Set::load(mask, b).meet(after(pre, next))
+    let reading = Set::load(mask, b);
+    let before = after(pre, next);
+    reading.meet(before)
 }
 
 // The same. For each byte `sets` keeps what was found last, and `keys` from which set.

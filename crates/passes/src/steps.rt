@@ -15,7 +15,8 @@ pub fn after(table: &[u64], s: Set) -> Set
     let mut left = s;
     let mut q = left.first();
     while q < LIMIT {
-        found = found.union(Set::load(table, q));
+        let row = Set::load(table, q);
+        found = found.union(row);
         left = left.without(q);
         q = left.first();
     }
