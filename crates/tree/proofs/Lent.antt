@@ -49,7 +49,7 @@ module _ {pat text cells room cells′ room′ : List ℕ} {n v f m c t : ℕ} (
       go (Answered.refused g r) z = omega (arith, refused-range r)
       go (Answered.judged g a j) z = judged j z
 
-  -- 9 is answered for want of room alone
+  -- where 9 is answered, no line before 4 applies
   nine-ready : n ≡ 9 → Ready pat text cells
   nine-ready z = go x z
     where
