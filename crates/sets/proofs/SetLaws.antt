@@ -1,16 +1,20 @@
 -- What a caller's proof may want of sets beside the contracts. Assumes nothing.
 use mathlib.Core.Path.{_≡_, refl, sym, ap, ap₂, _∙_}
 use mathlib.Core.Bool.{Bool, true, false, _&&_, not}
-use Prim.Native.Nat.{ℕ, zero, suc, _≤_, _<_}
+use mathlib.Core.List.{List}
+use Prim.Native.Nat.{ℕ, zero, suc, _^_, _≤_, _<_}
 use native.Mathlib.Omega.{arith}
 use lib.Dec.{eqb}
 use lib.ListN.{getD, replicate}
+use mir.Val.{Val}
+use denote.Laws.{Is}
 use borrow.Author.Tests.{ne-eqb}
 use Rattle.sets.specs.declared.set.Set.{Set}
 use Rattle.sets.specs.Members.{has, limit, size, meets, Least, row}
+use Rattle.sets.proofs.set.Set.{the-row}
 use Rattle.bits.specs.Bit.{bit}
 use Rattle.bits.specs.Truth.{both, and-both}
-use Rattle.bits.proofs.Bits.{bit-none, bit-lt}
+use Rattle.bits.proofs.Bits.{bit-none, bit-lt, bit-same}
 use Rattle.bits.proofs.Tallies.{any-at, any-some, tally-less}
 
 -- ---- a set's members
@@ -70,3 +74,15 @@ zero-at (suc n) (suc p) = zero-at n p
 pub zeros-empty : (n p q : ℕ) → has (row (replicate n 0) p) q ≡ false
 unfolding has row
 zeros-empty n p q = ap (λ (x : ℕ). bit limit x q) (zero-at n p) ∙ bit-none limit q
+
+-- ---- members settle a set that code holds: a parameter's `c .good` has the premise at its place, as `c .good .0`
+
+fits : {s : Set} {vs : List Val} → Is the-row s vs → s .bits < 2 ^ 64
+fits h = omega arith
+
+pub same-set : {s t : Set} {vs us : List Val} → Is the-row s vs → Is the-row t us → ((q : ℕ) → has s q ≡ has t q) → s ≡ t
+unfolding has
+same-set {s} {t} h l e = ap made (bit-same limit (s .bits) (t .bits) (fits h) (fits l) (λ p _. e p))
+  where
+    made : ℕ → Set
+    made n = record { bits = n }
