@@ -144,13 +144,13 @@ fn near_the_mark(chance: &mut Chance, mark: u64, count: usize) -> Vec<u16> {
 
 fn turns_case(chance: &mut Chance) -> TurnsCase {
     let mark = mark(chance);
-    let count = match chance.below(200) {
-        0 => chance.between(65530, 70000),
-        1..=20 => 0,
-        21..=40 => chance.between(500, 5000),
+    let count = match chance.below(10) {
+        0 => 0,
+        1 => chance.between(500, 5000),
         _ => chance.between(1, 60),
     };
     let row = match chance.below(10) {
+        _ if chance.below(200) == 0 => vec![mark as u16; chance.between(65530, 70000)],
         0..=2 => {
             let case = make::case(chance);
             first_row(&case.pattern, &case.text)

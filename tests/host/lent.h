@@ -30,7 +30,7 @@ struct left {
     struct row room;
 };
 
-/* Calls twice: with guards around the lent memory, which differ with `number`, and with lent blocks of just their length. */
+/* Calls with guards around the lent memory, which differ with `number`; and, if they stand, once more with lent blocks of just their length. */
 struct left call_first_tree(const struct tree_case *asked, unsigned long number);
 /* The row holds 2 bytes a token. No cells and no room are left. */
 struct left call_turns(struct row row, size_t mark);

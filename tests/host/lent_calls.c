@@ -75,7 +75,7 @@ struct left call_first_tree(const struct tree_case *asked, unsigned long number)
 {
     struct row pattern = copy_of(asked->pattern), text = copy_of(asked->text);
     struct left left = call_between_guards(asked, number);
-    if (!is_same_again(asked, &left)) {
+    if (left.fell == ALL_STANDS && !is_same_again(asked, &left)) {
         left.fell += OTHERWISE_AGAIN;
     }
     if (!is_same(pattern, asked->pattern) || !is_same(text, asked->text)) {

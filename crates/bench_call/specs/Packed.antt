@@ -9,7 +9,7 @@ use Rattle.tree.specs.Turns as turns
 use Rattle.tree.specs.declared.first_tree.Outcome.{Outcome}
 use Rattle.tree.specs.declared.turns.TurnCount.{TurnCount}
 
--- number + 16 · flag + 32 · value; no value reaches 2³²
+-- number + 16 · flag + 32 · value; no value reaches 2³², nor the count of a row with fewer tokens
 abbrev pub joined : ℕ → ℕ → ℕ → ℕ
 joined n v f = n + 16 * f + 32 * (v % 4294967296)
 

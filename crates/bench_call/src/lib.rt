@@ -8,7 +8,7 @@ use tree::first_tree::first_tree;
 use tree::turns::TurnCount;
 use tree::turns::turns;
 
-// No value comes near this: it only keeps the sum in a word.
+// No value comes near this, nor the count of a row that has fewer tokens: it only keeps the sum in a word.
 const ROOM: usize = 4294967296;
 
 // Number and flag, and a value.
