@@ -43,7 +43,8 @@ impl Totals {
             }
         }
         let skipped = self.skipped;
-        self.hold(skipped * SKIPPED_ONE_IN <= cases.max(SKIPPED_ONE_IN), || format!("differential: the reference skipped {skipped} of {cases} cases: more than one of {SKIPPED_ONE_IN}"));
+        let are_few = skipped * SKIPPED_ONE_IN <= cases.max(SKIPPED_ONE_IN);
+        self.hold(are_few, || format!("differential: the reference skipped {skipped} of {cases} cases: more than one of {SKIPPED_ONE_IN}"));
     }
 
     /// Prints the tally of a run of so many cases, which should have met the answers. `cases` is nothing where one case was picked.

@@ -138,18 +138,31 @@ static void hold_readings(void)
     hold_tree("(a|ab)b?", "ab", 1, bytes_of(desk, sizeof desk));
 }
 
+static void hold_not_a_pattern(const char *pattern, size_t place)
+{
+    hold(pattern, string(pattern), string("x"), 3, 4, refusal(4, place));
+}
+
+static void hold_no_tree(const char *text, size_t place)
+{
+    hold(text, string("a.c"), string(text), strlen(text) + 1, 4, refusal(8, place));
+    hold(text, string("a.c"), string(text), 40, 0, refusal(8, place));
+}
+
 static void hold_places(void)
 {
-    static const struct { const char *pattern; size_t place; } not_patterns[] = {{"", 0}, {"a**", 2}, {"(a", 2}, {")", 0}, {"[]", 1}, {"[z-a]", 3}, {"[a-]", 3}, {"a\\", 2}};
-    static const struct { const char *text; size_t place; } no_trees[] = {{"axd", 2}, {"ax", 2}, {"axcc", 3}, {"", 0}};
-    size_t at;
-    for (at = 0; at < sizeof not_patterns / sizeof *not_patterns; at++) {
-        hold(not_patterns[at].pattern, string(not_patterns[at].pattern), string("x"), 3, 4, refusal(4, not_patterns[at].place));
-    }
-    for (at = 0; at < sizeof no_trees / sizeof *no_trees; at++) {
-        hold(no_trees[at].text, string("a.c"), string(no_trees[at].text), strlen(no_trees[at].text) + 1, 4, refusal(8, no_trees[at].place));
-        hold(no_trees[at].text, string("a.c"), string(no_trees[at].text), 40, 0, refusal(8, no_trees[at].place));
-    }
+    hold_not_a_pattern("", 0);
+    hold_not_a_pattern("a**", 2);
+    hold_not_a_pattern("(a", 2);
+    hold_not_a_pattern(")", 0);
+    hold_not_a_pattern("[]", 1);
+    hold_not_a_pattern("[z-a]", 3);
+    hold_not_a_pattern("[a-]", 3);
+    hold_not_a_pattern("a\\", 2);
+    hold_no_tree("axd", 2);
+    hold_no_tree("ax", 2);
+    hold_no_tree("axcc", 3);
+    hold_no_tree("", 0);
 }
 
 /* `tokens`, so many bytes of them, `times` over. */

@@ -1,5 +1,5 @@
-//! A reference for the desk, for the scheduler's call and for the calls over lent memory, written from the rules alone: it writes out trees, and knows nothing of the
-//! product's method.
+//! A reference for the desk, for the scheduler's call and for the calls over lent memory, written from the rules alone: it writes out trees,
+//! and knows nothing of the product's method.
 
 pub mod answers;
 pub mod batch;
