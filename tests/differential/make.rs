@@ -182,11 +182,11 @@ fn any_text(chance: &mut Chance, pattern: &[u8], letters: &[u8]) -> Vec<u8> {
     (0..chance.below(10)).map(|_| if chance.percent(90) { chance.pick(letters) } else { chance.byte() }).collect()
 }
 
-fn repeated(piece: &[u8], times: usize) -> Vec<u8> {
+pub fn repeated(piece: &[u8], times: usize) -> Vec<u8> {
     piece.repeat(times)
 }
 
-fn wrapped(times: usize, before: &[u8], inner: &[u8], after: &[u8]) -> Vec<u8> {
+pub fn wrapped(times: usize, before: &[u8], inner: &[u8], after: &[u8]) -> Vec<u8> {
     [before.repeat(times), inner.to_vec(), after.repeat(times)].concat()
 }
 

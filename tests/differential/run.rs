@@ -12,14 +12,19 @@ pub fn output_of(command: &[String], input: &[u8]) -> Result<Vec<u8>, String> {
         .stdout(Stdio::piped())
         .spawn()
         .map_err(|error| said("cannot be run", error))?;
-    // no program here writes more than a pipe holds before it has read its input
-    let fed = child.stdin.take().expect("standard input is piped").write_all(input);
+    let mut pipe = child.stdin.take().expect("standard input is piped");
+    // fed by a thread of its own, since a program may write more than a pipe holds before it has read its input
+    let (fed, output) = std::thread::scope(|scope| {
+        let feeder = scope.spawn(move || pipe.write_all(input));
+        let output = child.wait_with_output();
+        (feeder.join().expect("the feeder ends"), output)
+    });
+    let output = output.map_err(|error| said("does not end", error))?;
     match fed {
         // the desk takes 8,192 bytes and may leave the rest
         Err(error) if error.kind() != ErrorKind::BrokenPipe => return Err(said("takes no input", error)),
         _ => {}
     }
-    let output = child.wait_with_output().map_err(|error| said("does not end", error))?;
     if !output.status.success() {
         return Err(format!("{} ended with {}", command[0], output.status));
     }

@@ -8,113 +8,27 @@
  * and the text.
  */
 #include "dimmhalt.h"
+#include "rows.h"
 
 #include <stdio.h>
-#include <stdlib.h>
 #include <string.h>
-
-/* Bytes on loan, in a block of just their length, so that a reader past the end leaves the block. */
-struct row {
-    unsigned char *bytes;
-    size_t length;
-};
-
-static void give_up(const char *why)
-{
-    fprintf(stderr, "host: %s\n", why);
-    exit(2);
-}
-
-/* A block of `length` bytes; of one byte where there is nothing to hold, since the call wants a pointer that is not null. */
-static struct row new_row(size_t length)
-{
-    struct row row;
-    row.length = length;
-    row.bytes = malloc(length > 0 ? length : 1);
-    if (row.bytes == NULL) {
-        give_up("no memory");
-    }
-    return row;
-}
 
 static unsigned int verdict(struct row pattern, struct row text)
 {
     return dimmhalt_verdict(pattern.bytes, pattern.length, text.bytes, text.length);
 }
 
-/* Reads a length. Answers 0 where the input has ended before it. */
-static int read_length(size_t *length)
-{
-    unsigned char bytes[4];
-    size_t got = fread(bytes, 1, sizeof bytes, stdin);
-    if (got == 0) {
-        return 0;
-    }
-    if (got != sizeof bytes) {
-        give_up("the batch breaks off in a length");
-    }
-    *length = (size_t)bytes[0] | (size_t)bytes[1] << 8 | (size_t)bytes[2] << 16 | (size_t)bytes[3] << 24;
-    return 1;
-}
-
-static struct row read_row(size_t length)
-{
-    struct row row = new_row(length);
-    if (fread(row.bytes, 1, length, stdin) != length) {
-        give_up("the batch breaks off in a pattern or a text");
-    }
-    return row;
-}
-
 static int run_batch(void)
 {
-    size_t length;
-    while (read_length(&length)) {
-        struct row pattern = read_row(length);
-        struct row text;
-        if (!read_length(&length)) {
-            give_up("the batch breaks off after a pattern");
-        }
-        text = read_row(length);
+    struct row pattern;
+    while (read_first_row(&pattern)) {
+        struct row text = read_row(1);
         printf("%u\n", verdict(pattern, text));
-        free(pattern.bytes);
-        free(text.bytes);
+        free_row(pattern);
+        free_row(text);
     }
-    if (ferror(stdin) || fflush(stdout) != 0) {
-        give_up("input or output failed");
-    }
+    end_batch();
     return 0;
-}
-
-/* `times` of `piece`, then `inner`, then `times` of `after`. */
-static struct row wrapped(size_t times, const char *piece, const char *inner, const char *after)
-{
-    struct row row = new_row(times * (strlen(piece) + strlen(after)) + strlen(inner));
-    unsigned char *at = row.bytes;
-    size_t turn;
-    for (turn = 0; turn < times; turn++) {
-        memcpy(at, piece, strlen(piece));
-        at += strlen(piece);
-    }
-    memcpy(at, inner, strlen(inner));
-    at += strlen(inner);
-    for (turn = 0; turn < times; turn++) {
-        memcpy(at, after, strlen(after));
-        at += strlen(after);
-    }
-    return row;
-}
-
-static struct row bytes_of(const char *bytes, size_t length)
-{
-    struct row row = new_row(length);
-    memcpy(row.bytes, bytes, length);
-    return row;
-}
-
-static struct row string(const char *bytes)
-{
-    return bytes_of(bytes, strlen(bytes));
 }
 
 static unsigned int passed;
@@ -129,8 +43,8 @@ static void hold(const char *what, struct row pattern, struct row text, unsigned
         failed++;
         printf("host: %s: got %u, wanted %u\n", what, got, wanted);
     }
-    free(pattern.bytes);
-    free(text.bytes);
+    free_row(pattern);
+    free_row(text);
 }
 
 static void hold_readings(void)

@@ -1,6 +1,7 @@
 //! The reference held to the rules' own examples, and its two shortcuts (completions of a beginning, how far a text gets) to plain search.
 
 use crate::answers::{answer, desk_answer, lines, verdict, Effort};
+use crate::lent::{first_tree, packed, turns, Left};
 use crate::pattern;
 
 const EFFORT: Effort = Effort { steps: 50_000_000, tokens: 2_000_000 };
@@ -129,6 +130,32 @@ fn desk(checks: &mut Checks) {
     checks.same("only 8,192 bytes are taken", desk_answer(&cut, EFFORT).ok().map(|got| got.number), Some(2));
 }
 
+/// What is left of five cells that hold 7 and eight tokens that hold 9, by each line of the table of answers.
+fn lent(checks: &mut Checks) {
+    let left = |pattern: &[u8], text: &[u8], cells: usize, room: usize| first_tree(pattern, text, &[7; 5][..cells], &[9; 8][..room], EFFORT).ok();
+    let wanted = |number, value, flag, cells: &[u64], room: &[u16]| Some(Left { number, value, flag, cells: cells.to_vec(), room: room.to_vec() });
+    let row = [1, 353, 129, 1, 353, 129];
+    let (cells, room) = (&[7; 5][..], &[9; 8][..]);
+    checks.same("lent: a long pattern", left(&[b'a'; 513], b"aa", 5, 8), wanted(1, 0, 0, cells, room));
+    checks.same("lent: a long text", left(b"a+", &[b'a'; 4097], 5, 8), wanted(2, 0, 0, cells, room));
+    checks.same("lent: two cells", left(b"a+", b"aa", 2, 8), wanted(3, 0, 0, &[7, 7], room));
+    checks.same("lent: not a pattern", left(b"a**", b"aa", 3, 8), wanted(4, 2, 0, &[7, 7, 7], room));
+    checks.same("lent: 65 groups", left(&wrapped(65, "(", "a", ")"), b"aa", 5, 8), wanted(5, 0, 0, cells, room));
+    checks.same("lent: 65 positions", left(&[b'a'; 65], b"aa", 5, 8), wanted(6, 0, 0, cells, room));
+    checks.same("lent: 65 marks", left("()+".repeat(65).as_bytes(), b"aa", 5, 8), wanted(7, 0, 0, cells, room));
+    checks.same("lent: no tree", left(b"a.c", b"ax", 5, 8), wanted(8, 2, 0, &[0, 0, 0, 7, 7], room));
+    checks.same("lent: room 5", left(b"a+", b"aa", 5, 5), wanted(9, 6, 0, &[0, 0, 0, 7, 7], &[9; 5]));
+    checks.same("lent: room 6", left(b"a+", b"aa", 3, 6), wanted(0, 6, 0, &[0, 0, 0], &row));
+    checks.same("lent: room 8", left(b"a+", b"aa", 4, 8), wanted(0, 6, 0, &[0, 0, 0, 7], &[&row[..], &[9, 9]].concat()));
+    checks.same("lent: another tree", left(b"a|a", b"a", 2, 3), wanted(0, 3, 1, &[0, 0], &[1, 353, 129]));
+    checks.same("lent: packed", packed(0, 3, 1), 112);
+    for (mark, number, count) in [(1, 0, 2), (2, 0, 0), (64, 0, 0), (0, 10, 0), (65, 10, 0), (129, 10, 0), (353, 10, 0), (65537, 10, 0), (u64::MAX, 10, 0)] {
+        checks.same(&format!("turns of mark {mark}"), turns(&row, mark), (number, count));
+    }
+    checks.same("turns in a row that is no tree", turns(&[64, 0, 192, 320, 65535, 64], 64), (0, 2));
+    checks.same("turns in an empty row", turns(&[], 1), (0, 0));
+}
+
 /// All rows of up to `longest` letters.
 fn rows_over(letters: &[u8], longest: usize) -> Vec<Vec<u8>> {
     let mut rows = vec![Vec::new()];
@@ -178,6 +205,7 @@ pub fn run() -> bool {
     places(&mut checks);
     limits(&mut checks);
     desk(&mut checks);
+    lent(&mut checks);
     completions(&mut checks);
     reaches(&mut checks);
     println!("reference: {} passed, {} failed", checks.passed, checks.failed);

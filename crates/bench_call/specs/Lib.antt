@@ -1,3 +1,3 @@
--- What the call of the measuring program promises, and that it leaves one outcome.
+-- What the calls for bench/ and the tests promise, and that each leaves one outcome.
 pub mod Packed
 pub mod One

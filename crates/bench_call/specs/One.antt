@@ -1,9 +1,9 @@
--- The call of the measuring program leaves one outcome for each input.
+-- The calls for bench/ and the tests leave one outcome for each input.
 use mathlib.Core.Path.{_≡_, sym, ap, _∙_}
 use mathlib.Core.List.{List}
 use Prim.Native.Nat.{ℕ}
-use Rattle.laws.specs.Promises.{answered-one}
-use Rattle.bench_call.specs.Packed.{joined, Packed}
+use Rattle.laws.specs.Promises.{answered-one, counted-one}
+use Rattle.bench_call.specs.Packed.{joined, Packed, Counts}
 
 pub packed-one : {pat text cells room cells₁ cells₂ room₁ room₂ : List ℕ} {r r′ : ℕ}
     → Packed pat text cells room r cells₁ room₁ → Packed pat text cells room r′ cells₂ room₂ → (r ≡ r′) × (cells₁ ≡ cells₂) × (room₁ ≡ room₂)
@@ -17,3 +17,11 @@ packed-one a b =
       z .1,
       z .0 .3,
     )
+
+pub counts-one : {row : List ℕ} {mark r r′ : ℕ} → Counts row mark r → Counts row mark r′ → r ≡ r′
+counts-one a b =
+    let z = counted-one (a .counted) (b .counted) in
+    a .in-one
+    ∙ ap (λ (n : ℕ). joined n (a .count) 0) (z .0)
+    ∙ ap (λ (c : ℕ). joined (b .number) c 0) (z .1)
+    ∙ sym (b .in-one)

@@ -1,11 +1,14 @@
-// One call for the program that measures (bench/): the first tree, with its number, flag and value in one number.
+// Calls over lent memory for the program that measures (bench/) and for the tests (tests/): the first tree and the turn count, each with its
+// whole answer in one number.
 ghost use mathlib.Core.Path.{_≡_};
 ghost use Prim.Native.Nat.{_+_, _*_, _%_, _<_};
-ghost use Rattle.bench_call.specs.Packed.{packed, Packed};
+ghost use Rattle.bench_call.specs.Packed.{packed, packed-count, Packed, Counts};
 use tree::first_tree::Outcome;
 use tree::first_tree::first_tree;
+use tree::turns::TurnCount;
+use tree::turns::turns;
 
-// No value comes near this: it only keeps the sum in a word.
+// No value comes near this, nor the count of a row that has fewer tokens: it only keeps the sum in a word.
 const ROOM: usize = 4294967296;
 
 // Number and flag, and a value.
@@ -50,4 +53,22 @@ pub extern "C" fn dimmhalt_first_tree(
     ensures { λ r. ⌜ Packed (now (pattern .entry)) (now (text .entry)) (now (cells .entry)) (now (tree .entry)) r (now (cells .exit)) (now (tree .exit)) ⌝ }
 {
     pack(first_tree(pattern, text, cells, tree))
+}
+
+// A turn count's answer as number + 32 * count.
+fn pack_count(answer: TurnCount) -> u64
+    ensures { λ r. ⌜ r ≡ packed-count answer ⌝ }
+{
+    match answer {
+        TurnCount::Count(count) => joined(0, count),
+        TurnCount::NoMark => 10,
+    }
+}
+
+// The turn count: lends the row on, and answers by `pack_count`.
+#[no_mangle]
+pub extern "C" fn dimmhalt_turns(row: &[u16], mark: usize) -> u64
+    ensures { λ r. ⌜ Counts (now (row .entry)) mark r ⌝ }
+{
+    pack_count(turns(row, mark))
 }

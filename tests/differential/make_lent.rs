@@ -1,0 +1,171 @@
+//! Makes cases over lent memory: what the lent cells and the tree room hold before a call, and how much of either there is.
+
+use crate::chance::Chance;
+use crate::make::{self, repeated, wrapped};
+use reference::answers::{answer, Effort, MARK_LIMIT, TEXT_LIMIT};
+use reference::pattern;
+
+pub enum Lent {
+    Tree(TreeCase),
+    Turns(TurnsCase),
+}
+
+pub struct TreeCase {
+    pub pattern: Vec<u8>,
+    pub text: Vec<u8>,
+    pub cells: Vec<u64>,
+    pub room: Vec<u16>,
+}
+
+pub struct TurnsCase {
+    pub row: Vec<u16>,
+    pub mark: u64,
+}
+
+/// To learn how long a first tree is; a case that asks for more is made as if it had none.
+const EFFORT: Effort = Effort { steps: 3_000_000, tokens: 0 };
+
+/// The most tokens that a tree can have.
+pub fn longest_tree(pattern: &[u8], text: &[u8]) -> usize {
+    let marks = pattern::read(pattern).map_or(MARK_LIMIT, |expression| expression.marks.min(MARK_LIMIT));
+    let length = text.len().min(TEXT_LIMIT);
+    length + 2 * marks * length.max(1)
+}
+
+/// The first tree, or an empty row where there is none.
+fn first_row(pattern: &[u8], text: &[u8]) -> Vec<u16> {
+    answer(pattern, text, usize::MAX, usize::MAX, EFFORT).map_or(Vec::new(), |answer| answer.row)
+}
+
+/// How many cells to lend for so many bytes of text: most often enough, and near the limit.
+fn cell_count(chance: &mut Chance, length: usize) -> usize {
+    match chance.below(20) {
+        0 | 1 => length,
+        2 => 0,
+        3 => chance.below(length + 1),
+        4..=11 => length + 1,
+        12..=14 => length + 2,
+        15..=17 => length + chance.between(3, 40),
+        _ => length + chance.between(100, 5000),
+    }
+}
+
+/// How many tokens to lend for a first tree of `length` tokens, where `longest` is the most that any tree of the case can have.
+fn room_count(chance: &mut Chance, length: usize, longest: usize) -> usize {
+    match chance.below(20) {
+        0..=4 => length,
+        5..=8 => length.saturating_sub(1),
+        9 => 0,
+        10 => chance.below(length + 1),
+        11..=13 => length + 1,
+        14 | 15 => length + chance.between(2, 40),
+        16 | 17 => length + chance.between(1000, 9000),
+        18 => longest,
+        _ => longest + chance.between(1, 3),
+    }
+}
+
+fn cells(chance: &mut Chance, count: usize) -> Vec<u64> {
+    match chance.below(10) {
+        0 => vec![u64::MAX; count],
+        1 => vec![0; count],
+        2 | 3 => (0..count).map(|_| chance.pick(&[0, 1, 1 << 63, u64::MAX])).collect(),
+        _ => (0..count).map(|_| chance.word()).collect(),
+    }
+}
+
+/// Any numbers, or such as stand in trees.
+fn tokens(chance: &mut Chance, count: usize) -> Vec<u16> {
+    match chance.below(10) {
+        0 => vec![u16::MAX; count],
+        1 => vec![0; count],
+        2..=4 => (0..count).map(|_| chance.below(512) as u16).collect(),
+        _ => (0..count).map(|_| chance.word() as u16).collect(),
+    }
+}
+
+/// A pattern and a text that are each refused, or not, for a ground of their own.
+fn several_refusals(chance: &mut Chance) -> (Vec<u8>, Vec<u8>) {
+    let pattern = match chance.below(8) {
+        0 => repeated(b"a", 513),
+        1 => repeated(b"(", 600),
+        2 => b"a**".to_vec(),
+        3 => repeated(b"(", 66),
+        4 => wrapped(65, b"(", &repeated(b"a", 65), b")"),
+        5 => repeated(b"a?", 65),
+        6 => repeated(b"()+", 65),
+        _ => b"a+".to_vec(),
+    };
+    let text = match chance.below(5) {
+        0 | 1 => repeated(b"a", 4097),
+        2 => repeated(b"b", chance.between(4097, 6000)),
+        3 => repeated(b"ab", chance.below(8)),
+        _ => repeated(b"b", chance.below(8)),
+    };
+    (pattern, text)
+}
+
+fn tree_case(chance: &mut Chance) -> TreeCase {
+    let are_several = chance.percent(8);
+    let (pattern, text) = if are_several {
+        several_refusals(chance)
+    } else {
+        let case = make::case(chance);
+        (case.pattern, case.text)
+    };
+    let cell_count = if are_several && chance.percent(50) { chance.below(text.len() + 1) } else { cell_count(chance, text.len()) };
+    let length = first_row(&pattern, &text).len();
+    let room_count = room_count(chance, length, longest_tree(&pattern, &text));
+    TreeCase { cells: cells(chance, cell_count), room: tokens(chance, room_count), pattern, text }
+}
+
+fn mark(chance: &mut Chance) -> u64 {
+    let inside = chance.between(1, 64) as u64;
+    match chance.below(20) {
+        0 => 0,
+        1 => 65,
+        2 => chance.pick(&[127, 128, 129, 192, 193, 255, 256, 257, 320, 512, 65535, 65536]),
+        3 => inside + chance.pick(&[64, 128, 256, 1 << 16, 1 << 31, 1 << 32, 1 << 48, 1 << 63]),
+        4 => chance.pick(&[u64::MAX, u64::MAX - 63, 1 << 63, u64::from(u32::MAX)]),
+        5 => chance.word(),
+        6 => 1,
+        7 => 64,
+        8..=13 => chance.between(1, 4) as u64,
+        _ => inside,
+    }
+}
+
+/// A row of which many tokens are the mark, or look like it in their low or high bits.
+fn near_the_mark(chance: &mut Chance, mark: u64, count: usize) -> Vec<u16> {
+    let mark = mark as u16;
+    let near = [mark, mark, mark, mark ^ 1, mark.wrapping_add(1), mark ^ 64, mark ^ 128, mark ^ 256, mark ^ 512, mark ^ (1 << 15), mark << 8, 0];
+    (0..count).map(|_| chance.pick(&near)).collect()
+}
+
+fn turns_case(chance: &mut Chance) -> TurnsCase {
+    let mark = mark(chance);
+    let count = match chance.below(10) {
+        0 => 0,
+        1 => chance.between(500, 5000),
+        _ => chance.between(1, 60),
+    };
+    let row = match chance.below(10) {
+        _ if chance.below(200) == 0 => vec![mark as u16; chance.between(65530, 70000)],
+        0..=2 => {
+            let case = make::case(chance);
+            first_row(&case.pattern, &case.text)
+        }
+        3 | 4 => tokens(chance, count),
+        5 => vec![mark as u16; count],
+        _ => near_the_mark(chance, mark, count),
+    };
+    TurnsCase { row, mark }
+}
+
+pub fn case(chance: &mut Chance) -> Lent {
+    if chance.percent(25) {
+        Lent::Turns(turns_case(chance))
+    } else {
+        Lent::Tree(tree_case(chance))
+    }
+}
