@@ -32,7 +32,9 @@ returns c =
     let firsts = opened .opens-first .ensures .0 in
     let ends = opened .opens-first .ensures .1 in
     let scanned = root-scanned (s .0) nulls firsts (s .1 .1 .0) in
-    (root-tabled (s .0) scanned (root-known (s .0) ends) (s .1 .1 .1 .1) (c .before .before .before .before .empty .ensures) (c .may-follow .ensures), root-spared (s .0) nulls firsts ends (c .may-follow .ensures))
+    let none = c .before .before .before .before .empty .ensures in
+    let follows = c .may-follow .ensures in
+    (root-tabled (s .0) scanned (root-known (s .0) ends) (s .1 .1 .1 .1) none follows, root-spared (s .0) nulls firsts ends follows)
 
 pub tables-spec : {M : Type 1} → statement M
 tables-spec =
