@@ -12,6 +12,9 @@ pub const DESK_INPUT: usize = 8192;
 pub const DESK_CELLS: usize = 4097;
 pub const DESK_ROOM: usize = 8192;
 
+/// Not an answer: what a stand-in says where the reference would have to work too long.
+pub const TOO_MUCH: u32 = 99;
+
 /// How much work a case may cost: words of ends and steps of the two first rows; tokens of all rows.
 #[derive(Clone, Copy)]
 pub struct Effort {

@@ -5,9 +5,7 @@ use std::slice::{from_raw_parts, from_raw_parts_mut};
 
 const EFFORT: answers::Effort = answers::Effort { steps: 20_000_000, tokens: 0 };
 
-/// Not an answer: the reference would have to work too long.
-const TOO_MUCH: u32 = 99;
-/// The same, packed.
+/// As `answers::TOO_MUCH`, packed.
 const TOO_MUCH_PACKED: u64 = 15;
 
 /// Stack for each byte of pattern and text. A memory checker is slow where a stack is large.
@@ -29,7 +27,7 @@ fn on_large_stack<T: Send>(bytes: usize, work: impl FnOnce() -> T + Send) -> T {
 #[no_mangle]
 pub unsafe extern "C" fn dimmhalt_verdict(pattern: *const u8, pattern_length: usize, text: *const u8, text_length: usize) -> u32 {
     let (pattern, text) = (from_raw_parts(pattern, pattern_length), from_raw_parts(text, text_length));
-    on_large_stack(pattern_length + text_length, || answers::verdict(pattern, text, EFFORT).unwrap_or(TOO_MUCH))
+    on_large_stack(pattern_length + text_length, || answers::verdict(pattern, text, EFFORT).unwrap_or(answers::TOO_MUCH))
 }
 
 /// The first tree of tests/host/lent.h.
