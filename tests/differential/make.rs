@@ -241,20 +241,29 @@ fn many_marks(chance: &mut Chance) -> (Vec<u8>, Vec<u8>) {
     (pattern, repeated(b"a", times))
 }
 
-/// Groups about 64 deep, some with too many positions or marks as well.
+/// Groups about 64 deep or much deeper, some with something beside each, with too many positions or marks, or with mistakes.
 fn deep_groups(chance: &mut Chance) -> (Vec<u8>, Vec<u8>) {
-    let depth = chance.between(62, 67);
-    let inner = match chance.below(5) {
+    let depth = if chance.percent(80) { chance.between(62, 67) } else { chance.between(68, 240) };
+    let inner = match chance.below(6) {
         0 => b"a".to_vec(),
         1 => b"a|b*".to_vec(),
         2 => repeated(b"a", 65),
         3 => repeated(b"()+", 65),
+        4 => any_pattern(chance, b"ab"),
         _ => b"()".to_vec(),
     };
-    let lost = usize::from(chance.percent(10));
-    let mut pattern = wrapped(depth, b"(", &inner, b")");
-    pattern.truncate(pattern.len() - lost);
-    (pattern, short_text(chance))
+    let (before, after): (&[u8], &[u8]) = match chance.below(8) {
+        0 => (b"(()", b")"),
+        1 => (b"(", b")?"),
+        2 => (b"(a|", b")"),
+        3 => (b"(", b"|b)"),
+        _ => (b"(", b")"),
+    };
+    let pattern = wrapped(depth, before, &inner, after);
+    let cut = if chance.percent(20) { chance.below(pattern.len() + 1) } else { pattern.len() };
+    let cut = pattern[..cut].to_vec();
+    let made = if chance.percent(30) { damaged(chance, &cut, b"ab") } else { cut };
+    (made, short_text(chance))
 }
 
 /// Texts of about 4,096 bytes.

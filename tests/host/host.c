@@ -1,16 +1,21 @@
 /*
  * The scheduler's side of the call, as a test.
  *
- *     host --fixed         holds the call to fixed cases
- *     host < batch         prints the verdict of each case of a batch, one a line
+ *     host --fixed              holds the call to fixed cases
+ *     host < batch              prints the verdict of each case of a batch, one a line
+ *     host --stack KB < batch   the same, in a thread that has so much stack
  *
  * A batch has for each case the length of the pattern in four bytes, the lowest first, the pattern, the length of the text in the same way,
  * and the text.
  */
+#define _POSIX_C_SOURCE 200112L
+
 #include "dimmhalt.h"
 #include "rows.h"
 
+#include <pthread.h>
 #include <stdio.h>
+#include <stdlib.h>
 #include <string.h>
 
 static unsigned int verdict(struct row pattern, struct row text)
@@ -29,6 +34,25 @@ static int run_batch(void)
     }
     end_batch();
     return 0;
+}
+
+static void *run_batch_here(void *status)
+{
+    *(int *)status = run_batch();
+    return NULL;
+}
+
+static int run_batch_within(size_t stack)
+{
+    pthread_attr_t attributes;
+    pthread_t thread;
+    int status = 2;
+    if (pthread_attr_init(&attributes) != 0 || pthread_attr_setstacksize(&attributes, stack) != 0
+        || pthread_create(&thread, &attributes, run_batch_here, &status) != 0 || pthread_join(thread, NULL) != 0) {
+        give_up("no thread with so much stack");
+    }
+    pthread_attr_destroy(&attributes);
+    return status;
 }
 
 static unsigned int passed;
@@ -80,6 +104,15 @@ static void hold_limits(void)
     hold("a million bytes of text", string("a*"), wrapped(1000000, "a", "", ""), DIMMHALT_TEXT_TOO_LONG);
     hold("64 groups", wrapped(64, "(", "a", ")"), string("a"), DIMMHALT_ONE_TREE);
     hold("65 groups", wrapped(65, "(", "a", ")"), string("a"), DIMMHALT_NESTED_TOO_DEEP);
+    hold("() in 63 groups", wrapped(63, "(", "()", ")"), string(""), DIMMHALT_ONE_TREE);
+    hold("() in 64 groups", wrapped(64, "(", "()", ")"), string(""), DIMMHALT_NESTED_TOO_DEEP);
+    hold("255 groups", wrapped(255, "(", "a", ")"), string("a"), DIMMHALT_NESTED_TOO_DEEP);
+    hold("65 groups, one not closed", wrapped(65, "(", "(a", ")"), string("a"), DIMMHALT_NOT_A_PATTERN);
+    hold("65 groups, one closed twice", wrapped(65, "(", "a)", ")"), string("a"), DIMMHALT_NOT_A_PATTERN);
+    hold("65 groups around a**", wrapped(65, "(", "a**", ")"), string("a"), DIMMHALT_NOT_A_PATTERN);
+    hold("65 groups around a|", wrapped(65, "(", "a|", ")"), string("a"), DIMMHALT_NOT_A_PATTERN);
+    hold("65 groups and 65 positions", wrapped(65, "(a", "", ")"), string("a"), DIMMHALT_NESTED_TOO_DEEP);
+    hold("512 open groups", wrapped(512, "(", "", ""), string("a"), DIMMHALT_NOT_A_PATTERN);
     hold("64 positions", wrapped(64, "a", "", ""), wrapped(64, "a", "", ""), DIMMHALT_ONE_TREE);
     hold("65 positions", wrapped(65, "a", "", ""), wrapped(65, "a", "", ""), DIMMHALT_TOO_MANY_POSITIONS);
     hold("64 marks", wrapped(63, "(", "a?", ")?"), string("a"), DIMMHALT_ONE_TREE);
@@ -111,6 +144,9 @@ int main(int count, char **words)
     if (count == 2 && strcmp(words[1], "--fixed") == 0) {
         return run_fixed();
     }
-    fprintf(stderr, "usage: host [--fixed] < batch\n");
+    if (count == 3 && strcmp(words[1], "--stack") == 0) {
+        return run_batch_within(1024 * (size_t)strtoul(words[2], NULL, 10));
+    }
+    fprintf(stderr, "usage: host [--fixed | --stack KB] < batch\n");
     return 64;
 }

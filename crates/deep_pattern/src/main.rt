@@ -1,21 +1,28 @@
-// Reads 512 open parentheses, the deepest that the reader goes; tests/stack says in how much stack it runs.
+// Reads the patterns that are deepest to read: 512 open parentheses, and 448 letters in 64 open groups. tests/stack says in how much stack it
+// runs.
 use libc::STDOUT_FILENO;
 use pattern::Reading;
 
-fn main() {
-    let deep = [b'('; 512];
-    let answer = pattern::read(&deep);
-    let reading = answer.reading;
+fn show(reading: Reading) {
     match reading {
         Reading::NoPattern(place) => {
-            if place == 512 {
-                io::write_all(STDOUT_FILENO, b"no pattern, at 512\n");
-            } else {
-                io::write_all(STDOUT_FILENO, b"no pattern, elsewhere\n");
-            }
+            io::write_all(STDOUT_FILENO, b"no pattern, at ");
+            io::print_decimal(STDOUT_FILENO, place as u64);
+            io::write_all(STDOUT_FILENO, b"\n");
         }
         _ => {
             io::write_all(STDOUT_FILENO, b"another answer\n");
         }
     }
+}
+
+fn main() {
+    let letters =
+        b"((((((((((((((((((((((((((((((((((((((((((((((((((((((((((((((((aaaaaaaaaaaaaaaaaaaaaaaaaaaaaaaaaaaaaaaaaaaaaaaaaaaaaaaaaaaaaaaaaaaaaaaaaaaaaaaaaaaaaaaaaaaaaaaaaaaaaaaaaaaaaaaaaaaaaaaaaaaaaaaaaaaaaaaaaaaaaaaaaaaaaaaaaaaaaaaaaaaaaaaaaaaaaaaaaaaaaaaaaaaaaaaaaaaaaaaaaaaaaaaaaaaaaaaaaaaaaaaaaaaaaaaaaaaaaaaaaaaaaaaaaaaaaaaaaaaaaaaaaaaaaaaaaaaaaaaaaaaaaaaaaaaaaaaaaaaaaaaaaaaaaaaaaaaaaaaaaaaaaaaaaaaaaaaaaaaaaaaaaaaaaaaaaaaaaaaaaaaaaaaaaaaaaaaaaaaaaaaaaaaaaaaaaaaaaaaaaaaaaaaaaaaaaaaaaaaaaaaaaaaaaaaaaaaaaaaaaaaaaaaa";
+    let parentheses = pattern::read(&[b'('; 512]);
+    let first = parentheses.reading;
+    show(first);
+    let groups = pattern::read(letters);
+    let second = groups.reading;
+    show(second);
 }

@@ -1,5 +1,5 @@
-// The longest text, 4,096 letters, with the pattern that is deepest to read, 512 open parentheses, and with the deepest that is read, 64
-// groups, each with a mark. The first line of each answer is printed; tests/stack says in how much stack it runs.
+// The longest text, 4,096 letters, with the pattern that is deepest to read, 448 letters in 64 open groups, and with the deepest to walk: 64
+// groups, each with a mark, and 256 parts in a row. The first line of each answer is printed; tests/stack says in how much stack it runs.
 use libc::STDOUT_FILENO;
 use lines::outcome::flag;
 use lines::outcome::number;
@@ -21,11 +21,16 @@ fn show(got: Outcome) {
 }
 
 fn main() {
-    let pattern =
+    let letters =
+        b"((((((((((((((((((((((((((((((((((((((((((((((((((((((((((((((((aaaaaaaaaaaaaaaaaaaaaaaaaaaaaaaaaaaaaaaaaaaaaaaaaaaaaaaaaaaaaaaaaaaaaaaaaaaaaaaaaaaaaaaaaaaaaaaaaaaaaaaaaaaaaaaaaaaaaaaaaaaaaaaaaaaaaaaaaaaaaaaaaaaaaaaaaaaaaaaaaaaaaaaaaaaaaaaaaaaaaaaaaaaaaaaaaaaaaaaaaaaaaaaaaaaaaaaaaaaaaaaaaaaaaaaaaaaaaaaaaaaaaaaaaaaaaaaaaaaaaaaaaaaaaaaaaaaaaaaaaaaaaaaaaaaaaaaaaaaaaaaaaaaaaaaaaaaaaaaaaaaaaaaaaaaaaaaaaaaaaaaaaaaaaaaaaaaaaaaaaaaaaaaaaaaaaaaaaaaaaaaaaaaaaaaaaaaaaaaaaaaaaaaaaaaaaaaaaaaaaaaaaaaaaaaaaaaaaaaaaaaaaaaa";
+    let groups =
         b"((((((((((((((((((((((((((((((((((((((((((((((((((((((((((((((((a)*)*)*)*)*)*)*)*)*)*)*)*)*)*)*)*)*)*)*)*)*)*)*)*)*)*)*)*)*)*)*)*)*)*)*)*)*)*)*)*)*)*)*)*)*)*)*)*)*)*)*)*)*)*)*)*)*)*)*)*)*)*)*)*";
+    let parts =
+        b"a*()()()()()()()()()()()()()()()()()()()()()()()()()()()()()()()()()()()()()()()()()()()()()()()()()()()()()()()()()()()()()()()()()()()()()()()()()()()()()()()()()()()()()()()()()()()()()()()()()()()()()()()()()()()()()()()()()()()()()()()()()()()()()()()()()()()()()()()()()()()()()()()()()()()()()()()()()()()()()()()()()()()()()()()()()()()()()()()()()()()()()()()()()()()()()()()()()()()()()()()()()()()()()()()()()()()()()()()()()()()()()()()()()()()()()()()()()()()()()()()()()()()()()()()()()()()()()()()";
     let text = [b'a'; 4096];
     let mut cells = [0u64; 4097];
     let mut room = [0u16; 12414];
-    show(first_tree(&[b'('; 512], &text, &mut cells, &mut room));
-    show(first_tree(pattern, &text, &mut cells, &mut room));
+    show(first_tree(letters, &text, &mut cells, &mut room));
+    show(first_tree(groups, &text, &mut cells, &mut room));
+    show(first_tree(parts, &text, &mut cells, &mut room));
 }

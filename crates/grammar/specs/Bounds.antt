@@ -35,7 +35,7 @@ small (starred {s = s} a) = let h = small a in simp length-append (omega arith)
 small (plussed {s = s} a) = let h = small a in simp length-append (omega arith)
 small (optional {s = s} a) = let h = small a in simp length-append (omega arith)
 small (item-one i) = small i
-small (item-more b i) = let h = small b in let g = small i in simp length-append (omega arith)
+small (item-more i b) = let h = small i in let g = small b in simp length-append (omega arith)
 small (front-one b) = let h = small b in simp length-append (omega arith)
 small (front-more f b) = let h = small f in let g = small b in simp length-append (omega arith)
 small (lone b) = small b

@@ -12,7 +12,7 @@ use Rattle.grammar.specs.Machine.{s-class, kind, n-char, inner}
 use Rattle.grammar.specs.Machine.{Acc, empty, ranges, Frame, m-next, m-quote, m-low, m-dash, m-dash-quote, State, atom, inside, dead, add, step, none, result, alive}
 use Rattle.grammar.specs.Reads.{plain-inner, Ranged, by-range, by-char, close-class}
 use Rattle.grammar.specs.Place.{seen, seen-suc, Stops}
-use Rattle.grammar.specs.Contract.{Atom-done, Item-bad, on, one, cut-off}
+use Rattle.grammar.specs.Contract.{Atom-done, Atom-bad, on, one, cut-off}
 
 -- an end of a class item, from i up to j
 pub data Char-at (s : List ℕ) (i : ℕ) : ℕ → ℕ → Type 0 where
@@ -191,6 +191,6 @@ module _ (s : List ℕ) (i : ℕ) (h : i < length s) (e : getD s i 0 ≡ 91) whe
   unfolding kind
   atom-class a = record { reads = λ F K σ. a .reads F K (one s i F K s-class 91 h σ e refl) }
 
-  pub atom-class-bad : {p : ℕ} → Class-bad s (i + 1) p → Item-bad s i p
+  pub atom-class-bad : {p : ℕ} → Class-bad s (i + 1) p → Atom-bad s i p
   unfolding kind
   atom-class-bad a = record { stops = λ F K σ w. a .stops F K (one s i F K s-class 91 h σ e refl) }

@@ -118,7 +118,7 @@ empty-group = accepted _ refl
 
 -- (a|ab)b?
 pub three-marks : Pattern (40 ∷ 97 ∷ 124 ∷ 97 ∷ 98 ∷ 41 ∷ 98 ∷ 63 ∷ []) (cat (alt (branch (ch 97)) (branch (cat (ch 97) (ch 98)))) (opt (ch 98))) 1
-three-marks = lone (item-more (item-one (once (group (several (front-one one-letter) (item-more one-letter (once (literal refl))))))) (optional (literal refl)))
+three-marks = lone (item-more (once (group (several (front-one one-letter) (item-more (once (literal refl)) (item-one (once (literal refl))))))) (item-one (optional (literal refl))))
   where
     one-letter : Is a-branch (97 ∷ []) (ch 97) 0
     one-letter = item-one (once (literal refl))

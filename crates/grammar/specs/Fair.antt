@@ -44,7 +44,7 @@ fair (starred a) = f-star (fair a)
 fair (plussed a) = f-plus (fair a)
 fair (optional a) = f-opt (fair a)
 fair (item-one i) = fair i
-fair (item-more b i) = f-cat (fair b) (fair i)
+fair (item-more i b) = f-cat (fair i) (fair b)
 fair (front-one b) = (k-branch, f-branch (fair b))
 fair (front-more f b) = let g = fair f in (k-alt (g .0) k-branch, f-alt (g .0) k-branch (g .1) (f-branch (fair b)))
 fair (lone b) = fair b

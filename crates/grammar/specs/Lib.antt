@@ -6,6 +6,7 @@ pub mod Sound
 pub mod ByteRow
 pub mod Viable
 pub mod Place
+pub mod Depth
 pub mod Bounds
 pub mod Each
 pub mod Fair
@@ -15,6 +16,7 @@ pub mod MarkedParts
 pub mod Examples
 pub mod Contract
 pub mod ClassContract
+pub mod Flat
 pub mod ByteTests
 pub mod Holds
 pub mod Accepted

@@ -46,19 +46,14 @@ pub data Front : Type 0 where
   first : Front
   after : Re → Front
 
--- the items read of this branch
-pub data Left : Type 0 where
-  no-items : Left
-  items : Re → Left
-
 -- the ranges read of this class
 pub data Acc : Type 0 where
   empty : Acc
   ranges : (ℕ → Bool) → Acc
 
--- what is read of a list but for its last atom, and how deep that nests
+-- what is read of a list but for its last atom: the branches before, the items of this branch, the last one first; and how deep that nests
 pub data Frame : Type 0 where
-  frame : Front → Left → ℕ → Frame
+  frame : Front → List Re → ℕ → Frame
 
 -- where in a class the machine is: before an item, behind a \, behind the end x of an item, behind its dash, behind a \ after that
 pub data Mode : Type 0 where
@@ -78,18 +73,18 @@ pub data State : Type 0 where
   dead : State
 
 abbrev pub fresh : Frame
-fresh = frame first no-items 0
+fresh = frame first [] 0
 
 abbrev pub start : State
 start = ready fresh []
 
--- one more item; one more branch, with a | behind it or as the last; one more class item
-abbrev pub join-left : Left → Re → Re
-join-left no-items e = e
-join-left (items x) e = cat x e
-
+-- one more item; the branch of the items l and, behind them, the branch x; one more branch, with a | behind it or as the last; one more class item
 abbrev pub join : Frame → Re → ℕ → Frame
-join (frame f l d) e d′ = frame f (items (join-left l e)) (max d d′)
+join (frame f l d) e d′ = frame f (e ∷ l) (max d d′)
+
+abbrev pub chain : List Re → Re → Re
+chain [] x = x
+chain (e ∷ l) x = chain l (cat e x)
 
 abbrev pub bar : Front → Re → Re
 bar first x = branch x
@@ -105,14 +100,14 @@ add (ranges f) g = either f g
 
 -- a byte that is no sign, behind whole items
 abbrev pub act-bar : Frame → List Frame → State
-act-bar (frame f no-items d) K = dead
-act-bar (frame f (items x) d) K = ready (frame (after (bar f x)) no-items d) K
+act-bar (frame f [] d) K = dead
+act-bar (frame f (x ∷ l) d) K = ready (frame (after (bar f (chain l x))) [] d) K
 
 abbrev pub act-close : Frame → List Frame → State
 act-close F [] = dead
-act-close (frame first no-items d) (G ∷ K) = atom eps 1 G K
-act-close (frame (after a) no-items d) (G ∷ K) = dead
-act-close (frame f (items x) d) (G ∷ K) = atom (shut f x) (suc d) G K
+act-close (frame first [] d) (G ∷ K) = atom eps (suc d) G K
+act-close (frame (after a) [] d) (G ∷ K) = dead
+act-close (frame f (x ∷ l) d) (G ∷ K) = atom (shut f (chain l x)) (suc d) G K
 
 abbrev pub act : Frame → List Frame → ℕ → Sym → State
 act F K b s-open = ready fresh (F ∷ K)
@@ -183,8 +178,8 @@ pub data Answer : Type 0 where
   read : Re → ℕ → Answer
 
 abbrev pub whole : Frame → Answer
-whole (frame f no-items d) = none
-whole (frame f (items x) d) = read (shut f x) d
+whole (frame f [] d) = none
+whole (frame f (x ∷ l) d) = read (shut f (chain l x)) d
 
 abbrev pub result : State → Answer
 result (ready F []) = whole F

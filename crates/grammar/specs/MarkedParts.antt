@@ -77,7 +77,7 @@ module _ {row : List ℕ} where
   standing i (plussed {s = s} q) a = Forall₂·cons (stands a refl refl (as-item q is-plus)) (standing i q (at-left s (43 ∷ []) a))
   standing i (optional {s = s} q) a = Forall₂·cons (stands a refl refl (as-item q is-opt)) (standing i q (at-left s (63 ∷ []) a))
   standing i (item-one q) a = standing i q a
-  standing i (item-more {s = s} {t = t} b q) a = pairs-append (standing i b (at-left s t a)) (standing (i + length s) q (at-right s t a))
+  standing i (item-more {s = s} {t = t} q b) a = pairs-append (standing i q (at-left s t a)) (standing (i + length s) b (at-right s t a))
   standing i (front-one {s = s} b) a = let h = at-left s (124 ∷ []) a in Forall₂·cons (stands h refl refl (as-branch b)) (standing i b h)
   standing i (front-more {s = s} {t = t} f b) a =
       let h = at-left t (124 ∷ []) (at-right s (t ++ 124 ∷ []) a) in

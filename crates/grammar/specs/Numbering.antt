@@ -32,7 +32,7 @@ extents i (starred {s = s} a) = extent i (i + length (s ++ 42 ∷ [])) ∷ exten
 extents i (plussed {s = s} a) = extent i (i + length (s ++ 43 ∷ [])) ∷ extents i a
 extents i (optional {s = s} a) = extent i (i + length (s ++ 63 ∷ [])) ∷ extents i a
 extents i (item-one a) = extents i a
-extents i (item-more {s = s} b a) = extents i b ++ extents (i + length s) a
+extents i (item-more {s = s} a b) = extents i a ++ extents (i + length s) b
 extents i (front-one {s = s} b) = extent i (i + length s) ∷ extents i b
 extents i (front-more {s = s} {t = t} f b) = extents i f ++ (extent (i + length s) (i + length s + length t) ∷ extents (i + length s) b)
 extents i (lone b) = extents i b
@@ -52,7 +52,7 @@ extents-marks i (starred a) = ap suc (extents-marks i a)
 extents-marks i (plussed a) = ap suc (extents-marks i a)
 extents-marks i (optional a) = ap suc (extents-marks i a)
 extents-marks i (item-one a) = extents-marks i a
-extents-marks i (item-more {s = s} b a) = simp length-append (ap₂ _+_ (extents-marks i b) (extents-marks (i + length s) a))
+extents-marks i (item-more {s = s} a b) = simp length-append (ap₂ _+_ (extents-marks i a) (extents-marks (i + length s) b))
 extents-marks i (front-one b) = ap suc (extents-marks i b)
 extents-marks i (front-more {s = s} f b) = simp length-append (ap₂ _+_ (extents-marks i f) (ap suc (extents-marks (i + length s) b)))
 extents-marks i (lone b) = extents-marks i b
@@ -125,7 +125,7 @@ good i (starred {s = s} a) = signed 42 s (good i a)
 good i (plussed {s = s} a) = signed 43 s (good i a)
 good i (optional {s = s} a) = signed 63 s (good i a)
 good i (item-one a) = good i a
-good i (item-more {s = s} {t = t} b a) = wider (omega arith) (simp length-append (omega arith)) (join (omega arith) (omega arith) (good i b) (good (i + length s) a))
+good i (item-more {s = s} {t = t} a b) = wider (omega arith) (simp length-append (omega arith)) (join (omega arith) (omega arith) (good i a) (good (i + length s) b))
 good i (front-one {s = s} b) = wider (omega arith) (simp length-append (omega arith)) (under (omega (arith, full b)) (omega arith) (good i b))
 good i (front-more {s = s} {t = t} f b) = wider (omega arith) (simp length-append (omega arith)) (beside (omega arith) (omega (arith, full b)) (good i f) (good (i + length s) b))
 good i (lone b) = good i b

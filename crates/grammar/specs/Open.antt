@@ -55,7 +55,7 @@ readable (starred {s = s} a) h = o-star (readable a (bytes-left s _ h))
 readable (plussed {s = s} a) h = o-plus (readable a (bytes-left s _ h))
 readable (optional {s = s} a) h = o-opt (readable a (bytes-left s _ h))
 readable (item-one i) h = readable i h
-readable (item-more {s = s} b i) h = o-cat (readable b (bytes-left s _ h)) (readable i (bytes-right s h))
+readable (item-more {s = s} i b) h = o-cat (readable i (bytes-left s _ h)) (readable b (bytes-right s h))
 readable (front-one {s = s} b) h = o-branch (readable b (bytes-left s _ h))
 readable (front-more {s = s} {t = t} f b) h = o-alt (readable f (bytes-left s _ h)) (o-branch (readable b (bytes-left t _ (bytes-right s h))))
 readable (lone b) h = readable b h

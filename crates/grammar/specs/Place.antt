@@ -26,7 +26,7 @@ seen-suc s i h = rw (add-one, take-suc s i 0, run-append start (take i s) (getD 
 pub seen-all : (s : List ℕ) → seen s (length s) ≡ run start s
 seen-all s = rw take-length refl
 
-seen-from : (s : List ℕ) (p q : ℕ) → p ≤ q → seen s q ≡ run (seen s p) (drop p (take q s))
+pub seen-from : (s : List ℕ) (p q : ℕ) → p ≤ q → seen s q ≡ run (seen s p) (drop p (take q s))
 seen-from s p q h =
     let rest = drop p (take q s) in
     ap (run start) (sym (take-append-drop p (take q s))) ∙ run-append start (take p (take q s)) rest

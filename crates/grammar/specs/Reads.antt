@@ -12,8 +12,8 @@ use Rattle.meaning.specs.Grammar.{Char, bare, quoted, Range, single, span, Clas
 use Rattle.meaning.specs.Grammar.{Part, an-atom, an-item, a-branch, fronts, a-list, Pattern}
 use Rattle.meaning.specs.Grammar.{Is, literal, escaped, dot, class, unit, group, once, starred, plussed, optional, item-one, item-more, front-one, front-more, lone, several}
 use Rattle.grammar.specs.Machine.{Sym, s-open, s-close, s-bar, s-dot, s-class, s-back, s-plain, symbol, kind, n-char, inner}
-use Rattle.grammar.specs.Machine.{Front, first, after, no-items, items, Acc, empty, ranges, Frame, frame, m-next, m-low, m-dash, State, ready, atom, inside}
-use Rattle.grammar.specs.Machine.{fresh, start, join, shut, add, act, step, run, Answer, read, whole, result, run-append}
+use Rattle.grammar.specs.Machine.{Front, first, after, Acc, empty, ranges, Frame, frame, m-next, m-low, m-dash, State, ready, atom, inside}
+use Rattle.grammar.specs.Machine.{fresh, start, join, chain, bar, shut, add, act, step, run, Answer, read, whole, result, run-append}
 
 -- b differs from each byte of a row
 data Apart : List ℕ → ℕ → Type 0 where
@@ -82,20 +82,27 @@ unfolding inner
 close-class by-range = refl
 close-class by-char = refl
 
--- a list read to its end
+-- a branch read to its end, behind the branches of f, and a list so read
+pub data Branches : State → Front → Re → ℕ → List Frame → Type 0 where
+  branches : {st : State} {f : Front} {l : List Re} {x : Re} {d : ℕ} {K : List Frame} → Settles st (frame f (x ∷ l) d) K → Branches st f (chain l x) d K
+
 pub data Ends : State → Re → ℕ → List Frame → Type 0 where
-  ends : {st : State} {f : Front} {x : Re} {d : ℕ} {K : List Frame} → Settles st (frame f (items x) d) K → Ends st (shut f x) d K
+  ends : {st : State} {f : Front} {x : Re} {d : ℕ} {K : List Frame} → Branches st f x d K → Ends st (shut f x) d K
+
+pub bar-branch : {st : State} {f : Front} {x : Re} {d : ℕ} {K : List Frame} → Branches st f x d K → step st 124 ≡ ready (frame (after (bar f x)) [] d) K
+unfolding kind
+bar-branch (branches σ) = settled 124 s-bar σ refl
 
 pub close-list : {st : State} {e : Re} {d : ℕ} {G : Frame} {K : List Frame} → Ends st e d (G ∷ K) → step st 41 ≡ atom e (suc d) G K
 unfolding kind
-close-list (ends σ) = settled 41 s-close σ refl
+close-list (ends (branches σ)) = settled 41 s-close σ refl
 
 -- what the machine makes of each part of a pattern
 abbrev Claim : Part → List ℕ → Re → ℕ → Type 0
 Claim an-atom s e d = (st : State) (F : Frame) (K : List Frame) → Settles st F K → run st s ≡ atom e d F K
 Claim an-item s e d = (st : State) (F : Frame) (K : List Frame) → Settles st F K → Settles (run st s) (join F e d) K
-Claim a-branch s e d = (st : State) (f : Front) (d₀ : ℕ) (K : List Frame) → Settles st (frame f no-items d₀) K → Settles (run st s) (frame f (items e) (max d₀ d)) K
-Claim fronts s e d = (K : List Frame) → run (ready fresh K) s ≡ ready (frame (after e) no-items d) K
+Claim a-branch s e d = (st : State) (f : Front) (l : List Re) (d₀ : ℕ) (K : List Frame) → Settles st (frame f l d₀) K → Branches (run st s) f (chain l e) (max d₀ d) K
+Claim fronts s e d = (K : List Frame) → run (ready fresh K) s ≡ ready (frame (after e) [] d) K
 Claim a-list s e d = (K : List Frame) → Ends (run (ready fresh K) s) e d K
 
 reads : {p : Part} {s : List ℕ} {e : Re} {d : ℕ} → Is p s e d → Claim p s e d
@@ -110,27 +117,27 @@ reads (once a) = λ st F K σ. rw (reads a st F K σ) by-atom
 reads (starred {s = s} a) = λ st F K σ. rw (run-append st s (42 ∷ []), reads a st F K σ) by-sign
 reads (plussed {s = s} a) = λ st F K σ. rw (run-append st s (43 ∷ []), reads a st F K σ) by-sign
 reads (optional {s = s} a) = λ st F K σ. rw (run-append st s (63 ∷ []), reads a st F K σ) by-sign
-reads (item-one i) = λ st f d₀ K σ. reads i st (frame f no-items d₀) K σ
-reads (item-more {s = s} {t = t} {x = x} {d = d} {d′ = d′} b i) = λ st f d₀ K σ.
+reads (item-one i) = λ st f l d₀ K σ. branches (reads i st (frame f l d₀) K σ)
+reads (item-more {s = s} {t = t} {x = x} {d = d} {d′ = d′} i b) = λ st f l d₀ K σ.
     let e : max d₀ (max d d′) ≡ max (max d₀ d) d′ = omega arith in
-    rw (run-append st s t, e) (reads i (run st s) (frame f (items x) (max d₀ d)) K (reads b st f d₀ K σ))
+    rw (run-append st s t, e) (reads b (run st s) f (x ∷ l) (max d₀ d) K (reads i st (frame f l d₀) K σ))
 reads (front-one {s = s} {d = d} b) = λ K.
     let e : max 0 d ≡ d = omega arith in
-    rw run-append (settled 124 s-bar (rw e at (reads b (ready fresh K) first 0 K by-sign)) refl)
+    rw run-append (bar-branch (rw e at (reads b (ready fresh K) first [] 0 K by-sign)))
 reads (front-more {s = s} {t = t} {a = a} {d = d} f b) = λ K.
-    rw (run-append (ready fresh K) s (t ++ 124 ∷ []), reads f K, run-append _ t (124 ∷ [])) (settled 124 s-bar (reads b (ready (frame (after a) no-items d) K) (after a) d K by-sign) refl)
+    rw (run-append (ready fresh K) s (t ++ 124 ∷ []), reads f K, run-append _ t (124 ∷ [])) (bar-branch (reads b (ready (frame (after a) [] d) K) (after a) [] d K by-sign))
 reads (lone {d = d} b) = λ K.
     let e : max 0 d ≡ d = omega arith in
-    ends (rw e at (reads b (ready fresh K) first 0 K by-sign))
+    ends (rw e at (reads b (ready fresh K) first [] 0 K by-sign))
 reads (several {s = s} {t = t} {a = a} {d = d} f b) = λ K.
-    rw (run-append (ready fresh K) s t, reads f K) (ends (reads b (ready (frame (after a) no-items d) K) (after a) d K by-sign))
+    rw (run-append (ready fresh K) s t, reads f K) (ends (reads b (ready (frame (after a) [] d) K) (after a) [] d K by-sign))
 
 settled-result : {st : State} {F : Frame} → Settles st F [] → result st ≡ whole F
 settled-result by-sign = refl
 settled-result by-atom = refl
 
 pub ends-result : {st : State} {e : Re} {d : ℕ} → Ends st e d [] → result st ≡ read e d
-ends-result (ends σ) = settled-result σ
+ends-result (ends (branches σ)) = settled-result σ
 
 pub accepts : {s : List ℕ} {e : Re} {d : ℕ} → Pattern s e d → result (run start s) ≡ read e d
 accepts p = ends-result (reads p [])

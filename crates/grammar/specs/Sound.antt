@@ -13,9 +13,9 @@ use Rattle.meaning.specs.Grammar.{an-atom, an-item, a-branch, fronts, a-list}
 use Rattle.meaning.specs.Grammar.{Is, literal, escaped, dot, class, unit, group, once, starred, plussed, optional, item-one, item-more, front-one, front-more, lone, several}
 use Rattle.grammar.specs.Machine.{Sym, s-open, s-close, s-bar, s-dot, s-class, s-back, s-bad, s-plain, Sign, is-star, is-plus, is-opt, Kind, sign, symbol, kind}
 use Rattle.grammar.specs.Machine.{Inner, n-open, n-close, n-dash, n-back, n-char, inner}
-use Rattle.grammar.specs.Machine.{Front, first, after, Left, no-items, items, Acc, empty, ranges, Frame, frame}
+use Rattle.grammar.specs.Machine.{Front, first, after, Acc, empty, ranges, Frame, frame}
 use Rattle.grammar.specs.Machine.{Mode, m-next, m-quote, m-low, m-dash, m-dash-quote, State, ready, atom, quote, inside, dead}
-use Rattle.grammar.specs.Machine.{start, join, join-left, bar, shut, add, act, act-bar, act-close, on-ready, on-atom, next, low, dash, high, on-inside, step, run}
+use Rattle.grammar.specs.Machine.{start, join, chain, bar, shut, add, act, act-bar, act-close, on-ready, on-atom, next, low, dash, high, on-inside, step, run}
 
 -- a byte and what it is
 data Known : ℕ → Kind → Type 0 where
@@ -61,12 +61,12 @@ pub data FrontOf : Front → List ℕ → ℕ → Type 0 where
   no-front : FrontOf first [] 0
   some-front : {s : List ℕ} {a : Re} {d : ℕ} → Is fronts s a d → FrontOf (after a) s d
 
-pub data LeftOf : Left → List ℕ → ℕ → Type 0 where
-  no-left : LeftOf no-items [] 0
-  some-left : {s : List ℕ} {x : Re} {d : ℕ} → Is a-branch s x d → LeftOf (items x) s d
+pub data ItemsOf : List Re → List ℕ → ℕ → Type 0 where
+  no-items : ItemsOf [] [] 0
+  more-items : {l : List Re} {s t : List ℕ} {x : Re} {d d′ : ℕ} → ItemsOf l s d → Is an-item t x d′ → ItemsOf (x ∷ l) (s ++ t) (max d d′)
 
 pub data FrameOf : Frame → List ℕ → Type 0 where
-  frame-of : {f : Front} {l : Left} {s t : List ℕ} {d d′ : ℕ} → FrontOf f s d → LeftOf l t d′ → FrameOf (frame f l (max d d′)) (s ++ t)
+  frame-of : {f : Front} {l : List Re} {s t : List ℕ} {d d′ : ℕ} → FrontOf f s d → ItemsOf l t d′ → FrameOf (frame f l (max d d′)) (s ++ t)
 
 pub data Before : Frame → List Frame → List ℕ → Type 0 where
   base : {F : Frame} {s : List ℕ} → FrameOf F s → Before F [] s
@@ -98,14 +98,20 @@ bar-front : {f : Front} {s t : List ℕ} {d d′ : ℕ} {x : Re} → FrontOf f s
 bar-front {d′ = d′} no-front b = let e : max 0 d′ ≡ d′ = omega arith in rw e (some-front (front-one b))
 bar-front (some-front f) b = some-front (front-more f b)
 
-left-join : {l : Left} {s t : List ℕ} {d d′ : ℕ} {e : Re} → LeftOf l s d → Is an-item t e d′ → LeftOf (items (join-left l e)) (s ++ t) (max d d′)
-left-join {d′ = d′} no-left i = let e : max 0 d′ ≡ d′ = omega arith in rw e (some-left (item-one i))
-left-join (some-left b) i = some-left (item-more b i)
+-- items, and a branch behind them, are a branch; so are items and one more
+chain-branch : {l : List Re} {s t : List ℕ} {d d′ : ℕ} {x : Re} → ItemsOf l s d → Is a-branch t x d′ → Is a-branch (s ++ t) (chain l x) (max d d′)
+chain-branch {d′ = d′} no-items b = let e : max 0 d′ ≡ d′ = omega arith in rw e b
+chain-branch {t = u} {d′ = d″} (more-items {s = s} {t = t} {d = d} {d′ = d′} r i) b =
+    let e : max (max d d′) d″ ≡ max d (max d′ d″) = omega arith in
+    rw (append-assoc s t u, e) (chain-branch r (item-more i b))
+
+pub items-branch : {l : List Re} {s : List ℕ} {d : ℕ} {x : Re} → ItemsOf (x ∷ l) s d → Is a-branch s (chain l x) d
+items-branch (more-items r i) = chain-branch r (item-one i)
 
 frame-join : {F : Frame} {s t : List ℕ} {d : ℕ} {e : Re} → FrameOf F s → Is an-item t e d → FrameOf (join F e d) (s ++ t)
 frame-join {t = u} {d = d} (frame-of {s = s} {t = t} {d = d₁} {d′ = d₂} f l) i =
     let e : max (max d₁ d₂) d ≡ max d₁ (max d₂ d) = omega arith in
-    rw (append-assoc s t u, e) (frame-of f (left-join l i))
+    rw (append-assoc s t u, e) (frame-of f (more-items l i))
 
 pub before-join : {F : Frame} {K : List Frame} {s t : List ℕ} {d : ℕ} {e : Re} → Before F K s → Is an-item t e d → Before (join F e d) K (s ++ t)
 before-join (base f) i = base (frame-join f i)
@@ -113,23 +119,23 @@ before-join {t = u} (deep {s = s} {t = t} B f) i = rw (append-assoc s (40 ∷ t)
 
 close-sound : {F : Frame} {K : List Frame} {s : List ℕ} → Before F K s → Inv (act-close F K) (s ++ 41 ∷ [])
 close-sound (base f) = v-dead
-close-sound (deep {s = s} B (frame-of no-front no-left)) = rw (append-assoc s (40 ∷ []) (41 ∷ [])) (v-atom B unit)
-close-sound (deep B (frame-of (some-front f) no-left)) = v-dead
-close-sound (deep {s = s} {t = t} B (frame-of f (some-left b))) = rw (append-assoc s (40 ∷ t) (41 ∷ [])) (v-atom B (group (shut-list f b)))
+close-sound (deep {s = s} B (frame-of no-front no-items)) = rw (append-assoc s (40 ∷ []) (41 ∷ [])) (v-atom B unit)
+close-sound (deep B (frame-of (some-front f) no-items)) = v-dead
+close-sound (deep {s = s} {t = t} B (frame-of f (more-items l i))) = rw (append-assoc s (40 ∷ t) (41 ∷ [])) (v-atom B (group (shut-list f (items-branch (more-items l i)))))
 
-bar-frame : {f : Front} {s t : List ℕ} {d d′ : ℕ} {x : Re} → FrontOf f s d → Is a-branch t x d′ → FrameOf (frame (after (bar f x)) no-items (max d d′)) ((s ++ t) ++ 124 ∷ [])
+bar-frame : {f : Front} {s t : List ℕ} {d d′ : ℕ} {x : Re} → FrontOf f s d → Is a-branch t x d′ → FrameOf (frame (after (bar f x)) [] (max d d′)) ((s ++ t) ++ 124 ∷ [])
 bar-frame {s = s} {t = t} {d = d} {d′ = d′} f b =
     let e : max (max d d′) 0 ≡ max d d′ = omega arith in
-    rw (append-assoc s t (124 ∷ []), ← append-nil (s ++ (t ++ 124 ∷ [])), ← e) (frame-of (bar-front f b) no-left)
+    rw (append-assoc s t (124 ∷ []), ← append-nil (s ++ (t ++ 124 ∷ [])), ← e) (frame-of (bar-front f b) no-items)
 
 bar-sound : {F : Frame} {K : List Frame} {s : List ℕ} → Before F K s → Inv (act-bar F K) (s ++ 124 ∷ [])
-bar-sound (base (frame-of f no-left)) = v-dead
-bar-sound (base (frame-of f (some-left b))) = v-ready (base (bar-frame f b))
-bar-sound (deep B (frame-of f no-left)) = v-dead
-bar-sound (deep {s = s} {t = t} B (frame-of f (some-left b))) = rw (append-assoc s (40 ∷ t) (124 ∷ [])) (v-ready (deep B (bar-frame f b)))
+bar-sound (base (frame-of f no-items)) = v-dead
+bar-sound (base (frame-of f (more-items l i))) = v-ready (base (bar-frame f (items-branch (more-items l i))))
+bar-sound (deep B (frame-of f no-items)) = v-dead
+bar-sound (deep {s = s} {t = t} B (frame-of f (more-items l i))) = rw (append-assoc s (40 ∷ t) (124 ∷ [])) (v-ready (deep B (bar-frame f (items-branch (more-items l i)))))
 
 act-sound : {F : Frame} {K : List Frame} {s : List ℕ} {b : ℕ} {y : Sym} → Before F K s → Known b (symbol y) → Inv (act F K b y) (s ++ b ∷ [])
-act-sound B k-open = v-ready (deep B (frame-of no-front no-left))
+act-sound B k-open = v-ready (deep B (frame-of no-front no-items))
 act-sound B k-close = close-sound B
 act-sound B k-bar = bar-sound B
 act-sound B k-dot = v-atom B dot
@@ -206,4 +212,4 @@ run-sound {s = s} [] v = rw append-nil v
 run-sound {s = s} (b ∷ t) v = rw (append-assoc s (b ∷ []) t) at (run-sound t (step-sound b v))
 
 pub start-sound : (s : List ℕ) → Inv (run start s) s
-start-sound s = run-sound s (v-ready (base (frame-of no-front no-left)))
+start-sound s = run-sound s (v-ready (base (frame-of no-front no-items)))

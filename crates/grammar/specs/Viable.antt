@@ -11,10 +11,10 @@ use Rattle.meaning.specs.Expression.{Re}
 use Rattle.meaning.specs.Grammar.{Is, a-list, once, Pattern, range, Bytes, no-byte, byte, Viable}
 use Rattle.grammar.specs.Machine.{kind, inner}
 use Rattle.grammar.specs.Machine.{Acc, empty, ranges, Frame, frame, Mode, m-next, m-quote, m-low, m-dash, m-dash-quote, State, ready, atom, quote, inside, dead}
-use Rattle.grammar.specs.Machine.{start, join-left, shut, add, high, step, run, none, read, whole, result, alive, run-append, run-dead}
+use Rattle.grammar.specs.Machine.{start, chain, shut, add, high, step, run, none, read, whole, result, alive, run-append, run-dead}
 use Rattle.grammar.specs.ByteRow.{bytes-left, bytes-right, bytes-tail, char-byte}
 use Rattle.grammar.specs.Reads.{accepts}
-use Rattle.grammar.specs.Sound.{no-left, some-left, FrameOf, frame-of, Before, base, start-sound, shut-list, before-join}
+use Rattle.grammar.specs.Sound.{no-items, more-items, items-branch, FrameOf, frame-of, Before, base, start-sound, shut-list, before-join}
 use Rattle.grammar.specs.Sound.{Inv, v-ready, v-atom, v-quote, v-inside, v-dead, no-acc, some-acc, ModeOf, o-next, o-quote, o-low, o-dash, o-dash-quote}
 
 pub none-read : {A : Type 0} {e : Re} {d : ℕ} → none ≡ read e d → A
@@ -25,8 +25,8 @@ same-list : {s : List ℕ} {e e′ : Re} {d d′ : ℕ} → Is a-list s e d → 
 same-list {e = e} {e′} {d} {d′} p q = let x : e ≡ e′ = cc in let y : d ≡ d′ = cc in rw (x, y) at p
 
 frame-list : {F : Frame} {s : List ℕ} {e : Re} {d : ℕ} → FrameOf F s → whole F ≡ read e d → Is a-list s e d
-frame-list (frame-of f no-left) q = none-read q
-frame-list (frame-of f (some-left b)) q = same-list (shut-list f b) q
+frame-list (frame-of f no-items) q = none-read q
+frame-list (frame-of f (more-items l i)) q = same-list (shut-list f (items-branch (more-items l i))) q
 
 before-list : {F : Frame} {s : List ℕ} {e : Re} {d : ℕ} → Before F [] s → whole F ≡ read e d → Is a-list s e d
 before-list (base f) q = frame-list f q
@@ -44,7 +44,7 @@ pub accepted : {e : Re} {d : ℕ} (s : List ℕ) → result (run start s) ≡ re
 accepted s q = inv-list (start-sound s) q
 
 -- what is alive can be completed: by an item where one is due, the rest of a class, and a ) for each open group
-data Accepting (st : State) : Type 0 where
+pub data Accepting (st : State) : Type 0 where
   accepting : {e : Re} {d : ℕ} → result st ≡ read e d → Accepting st
 
 abbrev closes : List Frame → List ℕ
@@ -69,7 +69,7 @@ fill dead = []
 closes-accept : (K : List Frame) (e : Re) (d : ℕ) (F : Frame) → Accepting (run (atom e d F K) (closes K))
 unfolding kind
 closes-accept [] e d (frame f l d₀) = accepting refl
-closes-accept (G ∷ K) e d (frame f l d₀) = closes-accept K (shut f (join-left l e)) (suc (max d₀ d)) G
+closes-accept (G ∷ K) e d (frame f l d₀) = closes-accept K (shut f (chain l e)) (suc (max d₀ d)) G
 
 high-accept : (c : Acc) (x : ℕ) (F : Frame) (K : List Frame) → Accepting (run (step (high c x F K x) 93) (closes K))
 unfolding inner

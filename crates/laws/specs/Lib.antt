@@ -1,5 +1,6 @@
 -- What follows from the definitions.
 pub mod Examples
+pub mod Grouping
 pub mod Promises
 pub mod Readings
 pub mod Room

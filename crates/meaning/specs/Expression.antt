@@ -2,8 +2,9 @@
 use mathlib.Core.Bool.{Bool}
 use Prim.Native.Nat.{ℕ, suc, _+_}
 
--- A position holds the test that its byte must pass. A list of two or more branches is a chain of `alt` over `branch`es, the items of a
--- branch are a chain of `cat`.
+-- A position holds the test that its byte must pass. A list of two or more branches is a chain of `alt` over `branch`es, with the last branch
+-- on the right of the outermost. The items of a branch are a chain of `cat`, joined to the right: its left part is the first item, its right
+-- part the branch of the others. So a group that stands before others in a branch is told apart from its items.
 pub data Re : Type 0 where
   eps : Re
   pos : (ℕ → Bool) → Re

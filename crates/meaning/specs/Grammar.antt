@@ -63,9 +63,9 @@ pub data Is : Part → List ℕ → Re → ℕ → Type 0 where
   starred : {s : List ℕ} {e : Re} {d : ℕ} → Is an-atom s e d → Is an-item (s ++ 42 ∷ []) (star e) d
   plussed : {s : List ℕ} {e : Re} {d : ℕ} → Is an-atom s e d → Is an-item (s ++ 43 ∷ []) (plus e) d
   optional : {s : List ℕ} {e : Re} {d : ℕ} → Is an-atom s e d → Is an-item (s ++ 63 ∷ []) (opt e) d
-  -- a branch: one or more items
+  -- a branch: an item, or an item and then a branch
   item-one : {s : List ℕ} {e : Re} {d : ℕ} → Is an-item s e d → Is a-branch s e d
-  item-more : {s t : List ℕ} {x y : Re} {d d′ : ℕ} → Is a-branch s x d → Is an-item t y d′ → Is a-branch (s ++ t) (cat x y) (max d d′)
+  item-more : {s t : List ℕ} {x y : Re} {d d′ : ℕ} → Is an-item s x d → Is a-branch t y d′ → Is a-branch (s ++ t) (cat x y) (max d d′)
   -- the branches before the last of a list, each with the | behind it
   front-one : {s : List ℕ} {x : Re} {d : ℕ} → Is a-branch s x d → Is fronts (s ++ 124 ∷ []) (branch x) d
   front-more : {s t : List ℕ} {a y : Re} {d d′ : ℕ} → Is fronts s a d → Is a-branch t y d′ → Is fronts (s ++ (t ++ 124 ∷ [])) (alt a (branch y)) (max d d′)

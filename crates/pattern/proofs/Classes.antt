@@ -12,10 +12,10 @@ use Rattle.sets.proofs.ClassLaws.{class-word}
 use Rattle.meaning.specs.Expression.{pos}
 use Rattle.meaning.specs.Grammar.{range, either}
 use Rattle.meaning.specs.ReadPattern.{word, words}
-use Rattle.grammar.specs.Contract.{Atom-done, Item-bad}
+use Rattle.grammar.specs.Contract.{Atom-done, Atom-bad}
 use Rattle.grammar.specs.ClassContract.{Ranges-done, Class-bad, ranges-first, ranges-more, atom-class, atom-class-bad}
-use Rattle.pattern.specs.Stores.{Tests}
-use Rattle.pattern.specs.Letters.{On, Letter-to, Range-to, Class-read, Classed, Letter-read, Lettered, Tested}
+use Rattle.pattern.specs.Stores.{Tests, Keeps}
+use Rattle.pattern.specs.Letters.{On, Letter-to, Position-done, Kept-to, Range-to, Class-read, Classed, Letter-read, Lettered, Tested}
 use Rattle.pattern.specs.declared.letters.Past.{Past}
 use Rattle.pattern.specs.declared.letters.Past.the-variants.{To, Not}
 use Rattle.pattern.specs.declared.letters.Taken.{Taken}
@@ -47,7 +47,7 @@ next-range {c = c} {d} k k′ h g w = record {
 
 -- ---- letters
 
-pub no-letter : {s : List ℕ} {i p : ℕ} (t : Taken) → t .past ≡ Not p → Item-bad s i p → Lettered s i t
+pub no-letter : {s : List ℕ} {i p : ℕ} (t : Taken) → t .past ≡ Not p → Atom-bad s i p → Lettered s i t
 no-letter t e h = rw e h
 
 pub test-letter : {s : List ℕ} {i j : ℕ} {f : ℕ → Bool} {t : Taken} → Tested f j t → Atom-done s i j (pos f) 0 → On (length s) i j → Lettered s i t
@@ -60,7 +60,15 @@ class-letter s i t l e = go (t .class) (t .past)
     go k (To j) h = record { test = h .test; done = atom-class s i l e (h .done); says = h .says; on = record { on = omega (arith, h .on .on); inside = h .on .inside } }
     go k (Not p) h = atom-class-bad s i l e h
 
+pub letter-kept : {s : List ℕ} {i j n : ℕ} {k : Class} {ws ws′ : List ℕ} → Letter-to Position-done s i j k → Keeps n k ws ws′ → Kept-to s i j n ws ws′
+letter-kept h w = record { test = h .test; done = h .done; word = w (h .test) (h .says); on = h .on }
+
 -- ---- the words of a class
+
+-- a row that is written past the end of a store leaves it as it is
+pub sets-out : (t v : List ℕ) (i : ℕ) → length t ≤ i → sets t i v ≡ t
+sets-out t [] i l = refl
+sets-out t (x ∷ v) i l = rw (set-out t i x l) (sets-out t v (suc i) (omega arith))
 
 module _ (t : List ℕ) (n : ℕ) (k : Class) (f : ℕ → Bool) where
   pub kept : ClassFits k → Tests k f
@@ -75,9 +83,8 @@ module _ (t : List ℕ) (n : ℕ) (k : Class) (f : ℕ → Bool) where
       rw (a, b, c, w 0 (omega arith), w 1 (omega arith), w 2 (omega arith), w 3 (omega arith))
 
   pub unkept : length t ≡ 256 → 64 ≤ n → t ≡ sets t (4 * n) (words (pos f))
-  unfolding words
-  unkept h l = sym (out (words (pos f)) (4 * n) (omega arith))
-    where
-      out : (v : List ℕ) (i : ℕ) → length t ≤ i → sets t i v ≡ t
-      out [] i g = refl
-      out (x ∷ v) i g = rw (set-out t i x g) (out v (suc i) (omega arith))
+  unkept h l = sym (sets-out t (words (pos f)) (4 * n) (omega arith))
+
+-- where there is no place for the words of a letter's class, the store is as before
+pub placeless : {s ws ws′ : List ℕ} {i j n : ℕ} → Kept-to s i j n ws ws′ → length ws ≡ 256 → 64 ≤ n → ws′ ≡ ws
+placeless {ws = ws} {n = n} h e l = h .word ∙ sets-out ws (words (pos (h .test))) (4 * n) (omega arith)

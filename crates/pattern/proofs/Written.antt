@@ -61,18 +61,18 @@ both-alt x y = record { node = refl; place = refl; mark = refl; kind = refl; bar
 
 -- ---- what is written
 
-module _ {c f : Cursor} {S : Stores} {ks′ gs′ : List ℕ} {i d : ℕ} where
-  pub wrote-eps : Became f i (c .used + 1) (c .positions) (c .marks) d → Put (c .used) 0 0 (S .kind) (S .arg) ks′ gs′ → Wrote c f S (stores ks′ gs′ (S .word)) eps
+module _ {c f : Cursor} {S : Stores} {ks′ gs′ : List ℕ} {i : ℕ} where
+  pub wrote-eps : Became f i (c .used + 1) (c .positions) (c .marks) → Put (c .used) 0 0 (S .kind) (S .arg) ks′ gs′ → Wrote c f S (stores ks′ gs′ (S .word)) eps
   unfolding nodes size marks kinds bare-args words
   wrote-eps b p = record { used = b .used; places = omega (arith, b .places); marked = omega (arith, b .marked); kind = p .kind; arg = p .arg; word = refl }
 
-  pub wrote-pos : {ws′ : List ℕ} (g : ℕ → Bool) → Became f i (c .used + 1) (c .positions + 1) (c .marks) d
+  pub wrote-pos : {ws′ : List ℕ} (g : ℕ → Bool) → Became f i (c .used + 1) (c .positions + 1) (c .marks)
       → Put (c .used) 1 (c .positions) (S .kind) (S .arg) ks′ gs′ → ws′ ≡ sets (S .word) (4 * c .positions) (words (pos g)) → Wrote c f S (stores ks′ gs′ ws′) (pos g)
   unfolding nodes size marks kinds bare-args
   wrote-pos g b p w = record { used = b .used; places = b .places; marked = omega (arith, b .marked); kind = p .kind; arg = p .arg; word = w }
 
-pub wrote-over : {k : ℕ} {x e : Re} {c d f : Cursor} {S S₁ : Stores} {ks′ gs′ : List ℕ} {i n : ℕ} → Over k x e → Wrote c d S S₁ x
-    → Became f i (d .used + 1) (d .positions) (d .marks + 1) n → Put (d .used) k 0 (S₁ .kind) (S₁ .arg) ks′ gs′ → Wrote c f S (stores ks′ gs′ (S₁ .word)) e
+pub wrote-over : {k : ℕ} {x e : Re} {c d f : Cursor} {S S₁ : Stores} {ks′ gs′ : List ℕ} {i : ℕ} → Over k x e → Wrote c d S S₁ x
+    → Became f i (d .used + 1) (d .positions) (d .marks + 1) → Put (d .used) k 0 (S₁ .kind) (S₁ .arg) ks′ gs′ → Wrote c f S (stores ks′ gs′ (S₁ .word)) e
 wrote-over {k} {x} {e} {c} {d} {f} {S} {S₁} o w b p = record {
   used = omega (arith, o .node, w .used, b .used);
   places = omega (arith, o .place, w .places, b .places);
@@ -85,8 +85,8 @@ wrote-over {k} {x} {e} {c} {d} {f} {S} {S₁} o w b p = record {
   word = rw (o .word) (w .word);
 }
 
-pub wrote-both : {k : ℕ} {x y e : Re} {c d m f : Cursor} {S S₁ S₂ : Stores} {ks′ gs′ : List ℕ} {i n : ℕ} → Both k x y e → Wrote c d S S₁ x → Wrote d m S₁ S₂ y
-    → Became f i (m .used + 1) (m .positions) (m .marks) n → Put (m .used) k (d .used - 1) (S₂ .kind) (S₂ .arg) ks′ gs′ → Wrote c f S (stores ks′ gs′ (S₂ .word)) e
+pub wrote-both : {k : ℕ} {x y e : Re} {c d m f : Cursor} {S S₁ S₂ : Stores} {ks′ gs′ : List ℕ} {i : ℕ} → Both k x y e → Wrote c d S S₁ x → Wrote d m S₁ S₂ y
+    → Became f i (m .used + 1) (m .positions) (m .marks) → Put (m .used) k (d .used - 1) (S₂ .kind) (S₂ .arg) ks′ gs′ → Wrote c f S (stores ks′ gs′ (S₂ .word)) e
 wrote-both {k} {x} {y} {e} {c} {d} {m} {f} {S} {S₁} {S₂} {ks′} {gs′} o w v b p = record {
   used = omega (arith, o .node, w .used, v .used, b .used);
   places = omega (arith, o .place, w .places, v .places, b .places);
@@ -113,7 +113,7 @@ wrote-both {k} {x} {y} {e} {c} {d} {m} {f} {S} {S₁} {S₂} {ks′} {gs′} o w
 
 -- ---- cursors that count the same
 
-pub wrote-from : {c c′ d : Cursor} {S S′ : Stores} {e : Re} {i n : ℕ} → Became c′ i (c .used) (c .positions) (c .marks) n → Wrote c′ d S S′ e → Wrote c d S S′ e
+pub wrote-from : {c c′ d : Cursor} {S S′ : Stores} {e : Re} {i : ℕ} → Became c′ i (c .used) (c .positions) (c .marks) → Wrote c′ d S S′ e → Wrote c d S S′ e
 wrote-from b w = record {
   used = omega (arith, b .used, w .used);
   places = omega (arith, b .places, w .places);
@@ -123,7 +123,7 @@ wrote-from b w = record {
   word = rw (b .places) at (w .word);
 }
 
-pub wrote-to : {c d f : Cursor} {S S′ : Stores} {e : Re} {i n : ℕ} → Became f i (d .used) (d .positions) (d .marks) n → Wrote c d S S′ e → Wrote c f S S′ e
+pub wrote-to : {c d f : Cursor} {S S′ : Stores} {e : Re} {i : ℕ} → Became f i (d .used) (d .positions) (d .marks) → Wrote c d S S′ e → Wrote c f S S′ e
 wrote-to b w = record {
   used = b .used ∙ w .used;
   places = b .places ∙ w .places;

@@ -2,11 +2,13 @@
 use mathlib.Core.Path.{_≡_}
 use mathlib.Core.Bool.{Bool, true, false}
 use mathlib.Core.List.{List}
-use Prim.Native.Nat.{ℕ, _≤_, _<_}
+use Prim.Native.Nat.{ℕ, _*_, _≤_, _<_}
 use lib.ListN.{length}
+use lib.Seq.{sets}
 use Rattle.meaning.specs.Expression.{pos}
 use Rattle.meaning.specs.Grammar.{range, one-of, signs}
-use Rattle.grammar.specs.Contract.{Stray, Atom-done, Item-bad}
+use Rattle.meaning.specs.ReadPattern.{words}
+use Rattle.grammar.specs.Contract.{Stray, Atom-done, Atom-bad}
 use Rattle.grammar.specs.ClassContract.{Char-at, No-char, Range-done, Range-bad, Class-done, Class-bad}
 use Rattle.sets.specs.declared.class.Class.{Class}
 use Rattle.pattern.specs.Stores.{Tests}
@@ -55,10 +57,21 @@ Classed s i t = Class-read s i (t .class) (t .past)
 
 abbrev pub Letter-read : List ℕ → ℕ → Class → Past → Type 0
 Letter-read s i k (To j) = Letter-to Position-done s i j k
-Letter-read s i k (Not p) = Item-bad s i p
+Letter-read s i k (Not p) = Atom-bad s i p
 
 abbrev pub Lettered : List ℕ → ℕ → Taken → Type 0
 Lettered s i t = Letter-read s i (t .class) (t .past)
+
+-- from i to j stands a letter, and the words of its class are those of position n, where there is a place for them
+pub record Kept-to (s : List ℕ) (i j n : ℕ) (ws ws′ : List ℕ) : Type 0 where
+  pub test : ℕ → Bool
+  pub done : Position-done s i j test
+  pub word : ws′ ≡ sets ws (4 * n) (words (pos test))
+  pub on : On (length s) i j
+
+abbrev pub Kept : List ℕ → ℕ → ℕ → List ℕ → List ℕ → Past → Type 0
+Kept s i n ws ws′ (To j) = Kept-to s i j n ws ws′
+Kept s i n ws ws′ (Not p) = Atom-bad s i p × (ws′ ≡ ws)
 
 -- what was read ends before `next`, and the class holds the bytes of the test f
 pub record Tested (f : ℕ → Bool) (next : ℕ) (t : Taken) : Type 0 where

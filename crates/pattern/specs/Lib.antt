@@ -3,3 +3,4 @@ pub mod Answers
 pub mod Stores
 pub mod Letters
 pub mod Parts
+pub mod Flat

@@ -6,11 +6,11 @@ use Prim.Native.Nat.{ℕ, _+_, _≤_, _<_}
 use lib.ListN.{length, getD}
 use Rattle.meaning.specs.Expression.{Re}
 use Rattle.grammar.specs.Machine.{Sign}
-use Rattle.grammar.specs.Contract.{Atom-done, Item-done, Item-bad, Branch-done, Branch-bad, Fronts-done, List-done, List-bad}
+use Rattle.grammar.specs.Contract.{Atom-done, Item-done, Item-fails, Branch-done, Fronts-done, List-done, List-fails}
 use Rattle.pattern.specs.Stores.{Stores, Moved, Wrote}
 use Rattle.pattern.specs.declared.nodes.Cursor.{Cursor}
 use Rattle.pattern.specs.declared.parts.Got.{Got}
-use Rattle.pattern.specs.declared.parts.Got.the-variants.{Done, Bad}
+use Rattle.pattern.specs.declared.parts.Got.the-variants.{Done, Failed}
 
 -- the byte b stands at i
 pub record Byte-at (s : List ℕ) (i b : ℕ) : Type 0 where
@@ -44,10 +44,12 @@ pub data Signed (s : List ℕ) (i : ℕ) : ℕ → Type 0 where
   opt-at : Byte-at s i 63 → Signed s i 7
   none-at : (i < length s → (f : Re → Re) → Sign (getD s i 0) f → ⊥) → Signed s i 0
 
--- from c to d stands what is read as some expression, which was written
-pub record Read-to (k : ℕ) (D : List ℕ → ℕ → ℕ → Re → ℕ → Type 0) (s : List ℕ) (c d : Cursor) (S S′ : Stores) : Type 0 where
+-- from c to d stands what is read as some expression, which was written, and which opens no more groups in each other than may be
+pub record Read-to (k : ℕ) (D : List ℕ → ℕ → ℕ → Re → ℕ → Type 0) (s : List ℕ) (left : ℕ) (c d : Cursor) (S S′ : Stores) : Type 0 where
   pub reading : Re
-  pub done : D s (c .at) (d .at) reading (d .deep)
+  pub deep : ℕ
+  pub shallow : deep ≤ left
+  pub done : D s (c .at) (d .at) reading deep
   pub moved : Moved k (length s) c d
   pub wrote : Wrote c d S S′ reading
 
@@ -55,18 +57,18 @@ pub record Read-to (k : ℕ) (D : List ℕ → ℕ → ℕ → Re → ℕ → Ty
 abbrev pub Fronts-at : List ℕ → ℕ → ℕ → Re → ℕ → Type 0
 Fronts-at s i j e d = Fronts-done s i (j + 1) e d
 
-abbrev pub Atomed : List ℕ → Cursor → Stores → Stores → Got → Type 0
-Atomed s c S S′ (Done d) = Read-to 1 Atom-done s c d S S′
-Atomed s c S S′ (Bad p) = Item-bad s (c .at) p
+abbrev pub Atomed : List ℕ → ℕ → Cursor → Stores → Stores → Got → Type 0
+Atomed s left c S S′ (Done d) = Read-to 1 Atom-done s left c d S S′
+Atomed s left c S S′ Failed = Item-fails s (c .at) left
 
-abbrev pub Itemed : List ℕ → Cursor → Stores → Stores → Got → Type 0
-Itemed s c S S′ (Done d) = Read-to 1 Item-done s c d S S′
-Itemed s c S S′ (Bad p) = Item-bad s (c .at) p
+abbrev pub Itemed : List ℕ → ℕ → Cursor → Stores → Stores → Got → Type 0
+Itemed s left c S S′ (Done d) = Read-to 1 Item-done s left c d S S′
+Itemed s left c S S′ Failed = Item-fails s (c .at) left
 
-abbrev pub Branched : List ℕ → Cursor → Stores → Stores → Got → Type 0
-Branched s c S S′ (Done d) = Read-to 1 Branch-done s c d S S′ × End s (d .at)
-Branched s c S S′ (Bad p) = Branch-bad s (c .at) p
+abbrev pub Branched : List ℕ → ℕ → Cursor → Stores → Stores → Got → Type 0
+Branched s left c S S′ (Done d) = Read-to 1 Branch-done s left c d S S′ × End s (d .at)
+Branched s left c S S′ Failed = Item-fails s (c .at) left
 
-abbrev pub Listed : List ℕ → Cursor → Stores → Stores → Got → Type 0
-Listed s c S S′ (Done d) = Read-to 1 List-done s c d S S′ × (d .at < length s → getD s (d .at) 0 ≡ 41)
-Listed s c S S′ (Bad p) = List-bad s (c .at) p
+abbrev pub Listed : List ℕ → ℕ → Cursor → Stores → Stores → Got → Type 0
+Listed s left c S S′ (Done d) = Read-to 1 List-done s left c d S S′ × (d .at < length s → getD s (d .at) 0 ≡ 41)
+Listed s left c S S′ Failed = List-fails s (c .at) left

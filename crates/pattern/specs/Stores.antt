@@ -53,12 +53,11 @@ abbrev pub Keeps : ℕ → Class → List ℕ → List ℕ → Type 0
 Keeps n k ws ws′ = (f : ℕ → Bool) → Tests k f → ws′ ≡ sets ws (4 * n) (words (pos f))
 
 -- the fields of a cursor
-pub record Became (c : Cursor) (i u p m d : ℕ) : Type 0 where
+pub record Became (c : Cursor) (i u p m : ℕ) : Type 0 where
   pub at : c .at ≡ i
   pub used : c .used ≡ u
   pub places : c .positions ≡ p
   pub marked : c .marks ≡ m
-  pub deep : c .deep ≡ d
 
 -- between c and d the expression e was written
 pub record Wrote (c d : Cursor) (S S′ : Stores) (e : Re) : Type 0 where
@@ -85,7 +84,6 @@ pub record Moved (k n : ℕ) (c d : Cursor) : Type 0 where
   pub nodes : d .used + k + 2 * c .at ≤ c .used + 2 * d .at
   pub places : d .positions + c .used ≤ c .positions + d .used
   pub marked : d .marks + c .used ≤ c .marks + d .used
-  pub deep : d .deep + c .at ≤ d .at
 
 -- node i is the last of e, whose nodes start at u, with the marks not numbered
 pub record Lies (ks gs : List ℕ) (u p i : ℕ) (e : Re) : Type 0 where

@@ -4,8 +4,9 @@ ghost use Prim.Native.Nat.{_+_, _<_, _≤_};
 ghost use lib.ListN.{length};
 ghost use Rattle.meaning.specs.Grammar.{any, range};
 ghost use Rattle.pattern.specs.Parts.{Byte-at};
-ghost use Rattle.pattern.specs.Letters.{Byted, Spanned, Tested, Classed, Lettered, Strayed};
+ghost use Rattle.pattern.specs.Letters.{Byted, Spanned, Tested, Classed, Lettered, Strayed, Kept};
 ghost use Rattle.pattern.specs.declared.letters.Past.the-variants.{Not};
+use super::nodes;
 use sets::class::Class;
 
 // A place past what was read, or the place that is bad.
@@ -176,7 +177,7 @@ fn stray(b: u8) -> bool
 }
 
 // An atom that is no group.
-pub fn letter(p: &[u8], at: usize) -> Taken
+fn letter(p: &[u8], at: usize) -> Taken
     requires { ⌜ (at ≤ length (now p)) × (Byte-at (now p) at 40 → ⊥) ⌝ }
     ensures { λ r. ⌜ Lettered (now (p .entry)) at r ⌝ }
 {
@@ -202,4 +203,21 @@ pub fn letter(p: &[u8], at: usize) -> Taken
         return refused(at);
     }
     ranged(b, b, next)
+}
+
+// Reads such an atom, and keeps its class as that of position n.
+pub fn kept(p: &[u8], at: usize, class: &mut [u64; 256], n: u16) -> Past
+    requires { ⌜ (at ≤ length (now p)) × (Byte-at (now p) at 40 → ⊥) × (length (now class) ≡ 256) ⌝ }
+    ensures { λ r. ⌜ Kept (now (p .entry)) at n (now (class .entry)) (now (class .exit)) r ⌝ }
+{
+    let t = letter(p, at);
+    let past = t.past;
+    match past {
+        Past::Not(k) => Past::Not(k),
+        Past::To(next) => {
+            let k = t.class;
+            nodes::keep(class, n, k);
+            Past::To(next)
+        }
+    }
 }

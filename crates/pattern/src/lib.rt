@@ -1,37 +1,27 @@
 // The pattern reader: which number answers a pattern, and the read pattern.
+ghost use Prim.Native.Nat.{_+_, _≤_};
+ghost use lib.ListN.{length};
+ghost use Rattle.meaning.specs.Limits.{pattern-limit, nesting-limit};
+ghost use Rattle.meaning.specs.ReadPattern.{no-parts};
 ghost use Rattle.meaning.specs.Promise.{Read};
+ghost use Rattle.grammar.specs.Contract.{Fails};
 ghost use Rattle.pattern.specs.Answers.{number-of, value-of, parts-of, Refusal};
+use letters::Past;
 use parts::Got;
 
 mod letters;
 mod nodes;
 mod parts;
-
-// The kinds of nodes.
-pub const EPS: u8 = 0;
-
-pub const POS: u8 = 1;
-
-pub const CAT: u8 = 2;
-
-pub const ALT: u8 = 3;
-
-pub const BRANCH: u8 = 4;
-
-pub const STAR: u8 = 5;
-
-pub const PLUS: u8 = 6;
-
-pub const OPT: u8 = 7;
+mod scan;
 
 // The limits.
 pub const PATTERN_LIMIT: usize = 512;
 
-pub const NESTING_LIMIT: usize = 64;
+pub const NESTING_LIMIT: u16 = 64;
 
-pub const POSITION_LIMIT: usize = 64;
+pub const POSITION_LIMIT: u16 = 64;
 
-pub const MARK_LIMIT: usize = 64;
+pub const MARK_LIMIT: u16 = 64;
 
 pub enum Reading {
     Read,
@@ -75,6 +65,17 @@ fn refused(reading: Reading) -> Answer
     Answer { reading, pattern }
 }
 
+// Why a pattern was not read: it is none, or it is too deep.
+fn wrong(pattern: &[u8]) -> Reading
+    requires { ⌜ (length (now pattern) ≤ pattern-limit) × Fails (now pattern) (nesting-limit + 1) ⌝ }
+    ensures { λ r. ⌜ Read (now (pattern .entry)) (number-of r) (value-of r) no-parts ⌝ }
+{
+    match scan::scan(pattern) {
+        Past::To(_) => Reading::TooDeep,
+        Past::Not(place) => Reading::NoPattern(place),
+    }
+}
+
 pub fn read(pattern: &[u8]) -> Answer
     ensures { λ r. ⌜ Read (now (pattern .entry)) (number-of (r .reading)) (value-of (r .reading)) (parts-of (r .pattern)) ⌝ }
 {
@@ -84,15 +85,19 @@ pub fn read(pattern: &[u8]) -> Answer
     let mut kind = [0u8; 1024];
     let mut arg = [0u16; 1024];
     let mut class = [0u64; 256];
-    match parts::list(pattern, &mut kind, &mut arg, &mut class, nodes::start()) {
-        Got::Bad(place) => refused(Reading::NoPattern(place)),
+    match parts::list(
+        pattern,
+        &mut kind,
+        &mut arg,
+        &mut class,
+        nodes::start(),
+        NESTING_LIMIT,
+    ) {
+        Got::Failed => refused(wrong(pattern)),
         Got::Done(d) => {
-            let at = d.at;
+            let at = d.at as usize;
             if at < pattern.len() {
                 return refused(Reading::NoPattern(at));
-            }
-            if NESTING_LIMIT < d.deep {
-                return refused(Reading::TooDeep);
             }
             if POSITION_LIMIT < d.positions {
                 return refused(Reading::ManyPositions);
@@ -100,15 +105,15 @@ pub fn read(pattern: &[u8]) -> Answer
             if MARK_LIMIT < d.marks {
                 return refused(Reading::ManyMarks);
             }
-            let used = d.used;
+            let used = d.used as usize;
             nodes::number(&kind, &mut arg, used - 1, 0);
             let pattern = ReadPattern {
                 kind,
                 arg,
                 class,
                 nodes: used,
-                positions: d.positions,
-                marks: d.marks,
+                positions: d.positions as usize,
+                marks: d.marks as usize,
             };
             Answer {
                 reading: Reading::Read,

@@ -1,4 +1,5 @@
-// A branch list, a branch, an item and an atom: four functions that call each other in a cycle.
+// A branch list, a branch, an item and an atom: four functions that call each other in a cycle. Each takes how many groups may still be
+// opened.
 ghost use Prim.Native.Nat.{_+_, _<_};
 ghost use lib.ListN.{length};
 ghost use Rattle.pattern.specs.Stores.{stores, Room, Within};
@@ -8,9 +9,10 @@ use super::letters::Past;
 use super::nodes;
 use super::nodes::Cursor;
 
+// What was read up to the cursor; or nothing, since there is a mistake or more groups are opened than may be.
 pub enum Got {
     Done(Cursor),
-    Bad(usize),
+    Failed,
 }
 
 // Whether the byte b stands at `at`.
@@ -43,19 +45,19 @@ fn goes_on(p: &[u8], at: usize) -> bool
 }
 
 // The kind of node for the sign at `at`, or 0 where none of * + ? is there.
-fn sign(p: &[u8], at: usize) -> u8
+pub fn sign(p: &[u8], at: usize) -> u8
     ensures { λ r. ⌜ Signed (now (p .entry)) at r ⌝ }
 {
     if at < p.len() {
         let b = p[at];
         if b == b'*' {
-            return super::STAR;
+            return kinds::STAR;
         }
         if b == b'+' {
-            return super::PLUS;
+            return kinds::PLUS;
         }
         if b == b'?' {
-            return super::OPT;
+            return kinds::OPT;
         }
     }
     0
@@ -68,19 +70,14 @@ fn single(
     arg: &mut [u16; 1024],
     class: &mut [u64; 256],
     c: Cursor,
+    left: u16,
 ) -> Got
     requires { ⌜ Room (stores (now kind) (now arg) (now class)) × Within (length (now p)) c × (Byte-at (now p) (c .at) 40 → ⊥) ⌝ }
-    ensures { λ r. ⌜ Atomed (now (p .entry)) c (stores (now (kind .entry)) (now (arg .entry)) (now (class .entry))) (stores (now (kind .exit)) (now (arg .exit)) (now (class .exit))) r ⌝ }
+    ensures { λ r. ⌜ Atomed (now (p .entry)) left c (stores (now (kind .entry)) (now (arg .entry)) (now (class .entry))) (stores (now (kind .exit)) (now (arg .exit)) (now (class .exit))) r ⌝ }
 {
-    let at = c.at;
-    let t = letters::letter(p, at);
-    let past = t.past;
-    match past {
-        Past::Not(k) => Got::Bad(k),
-        Past::To(next) => {
-            let k = t.class;
-            Got::Done(nodes::position(kind, arg, class, c, next, k))
-        }
+    match letters::kept(p, c.at as usize, class, c.positions) {
+        Past::Not(_) => Got::Failed,
+        Past::To(next) => Got::Done(nodes::position(kind, arg, c, next as u16)),
     }
 }
 
@@ -90,24 +87,25 @@ pub fn list(
     arg: &mut [u16; 1024],
     class: &mut [u64; 256],
     c: Cursor,
+    left: u16,
 ) -> Got
     requires { ⌜ Room (stores (now kind) (now arg) (now class)) × Within (length (now p)) c ⌝ }
-    ensures { λ r. ⌜ Listed (now (p .entry)) c (stores (now (kind .entry)) (now (arg .entry)) (now (class .entry))) (stores (now (kind .exit)) (now (arg .exit)) (now (class .exit))) r ⌝ }
+    ensures { λ r. ⌜ Listed (now (p .entry)) left c (stores (now (kind .entry)) (now (arg .entry)) (now (class .entry))) (stores (now (kind .exit)) (now (arg .exit)) (now (class .exit))) r ⌝ }
 {
-    match branch(p, kind, arg, class, c) {
-        Got::Bad(k) => Got::Bad(k),
+    match branch(p, kind, arg, class, c, left) {
+        Got::Failed => Got::Failed,
         Got::Done(first) => {
-            if stands(p, first.at, b'|') {
-                let mut d = nodes::marked(kind, arg, first, first.at, super::BRANCH);
+            if stands(p, first.at as usize, b'|') {
+                let mut d = nodes::marked(kind, arg, first, first.at, kinds::BRANCH);
                 loop {
-                    match branch(p, kind, arg, class, nodes::past(d)) {
-                        Got::Bad(k) => return Got::Bad(k),
+                    match branch(p, kind, arg, class, nodes::past(d), left) {
+                        Got::Failed => return Got::Failed,
                         Got::Done(e) => {
-                            let m = nodes::marked(kind, arg, e, e.at, super::BRANCH);
-                            d = nodes::joined(kind, arg, d, m, super::ALT);
+                            let m = nodes::marked(kind, arg, e, e.at, kinds::BRANCH);
+                            d = nodes::joined(kind, arg, d, m, kinds::ALT);
                         }
                     }
-                    if !stands(p, d.at, b'|') {
+                    if !stands(p, d.at as usize, b'|') {
                         return Got::Done(d);
                     }
                 }
@@ -118,27 +116,31 @@ pub fn list(
     }
 }
 
+// An item, and the rest of the branch where it goes on.
 fn branch(
     p: &[u8],
     kind: &mut [u8; 1024],
     arg: &mut [u16; 1024],
     class: &mut [u64; 256],
     c: Cursor,
+    left: u16,
 ) -> Got
     requires { ⌜ Room (stores (now kind) (now arg) (now class)) × Within (length (now p)) c ⌝ }
-    ensures { λ r. ⌜ Branched (now (p .entry)) c (stores (now (kind .entry)) (now (arg .entry)) (now (class .entry))) (stores (now (kind .exit)) (now (arg .exit)) (now (class .exit))) r ⌝ }
+    ensures { λ r. ⌜ Branched (now (p .entry)) left c (stores (now (kind .entry)) (now (arg .entry)) (now (class .entry))) (stores (now (kind .exit)) (now (arg .exit)) (now (class .exit))) r ⌝ }
 {
-    match item(p, kind, arg, class, c) {
-        Got::Bad(k) => Got::Bad(k),
+    match item(p, kind, arg, class, c, left) {
+        Got::Failed => Got::Failed,
         Got::Done(first) => {
-            let mut d = first;
-            while goes_on(p, d.at) {
-                match item(p, kind, arg, class, d) {
-                    Got::Bad(k) => return Got::Bad(k),
-                    Got::Done(e) => d = nodes::joined(kind, arg, d, e, super::CAT),
+            if goes_on(p, first.at as usize) {
+                match branch(p, kind, arg, class, first, left) {
+                    Got::Failed => Got::Failed,
+                    Got::Done(rest) => {
+                        Got::Done(nodes::joined(kind, arg, first, rest, kinds::CAT))
+                    }
                 }
+            } else {
+                Got::Done(first)
             }
-            Got::Done(d)
         }
     }
 }
@@ -149,15 +151,16 @@ fn item(
     arg: &mut [u16; 1024],
     class: &mut [u64; 256],
     c: Cursor,
+    left: u16,
 ) -> Got
     requires { ⌜ Room (stores (now kind) (now arg) (now class)) × Within (length (now p)) c ⌝ }
-    ensures { λ r. ⌜ Itemed (now (p .entry)) c (stores (now (kind .entry)) (now (arg .entry)) (now (class .entry))) (stores (now (kind .exit)) (now (arg .exit)) (now (class .exit))) r ⌝ }
+    ensures { λ r. ⌜ Itemed (now (p .entry)) left c (stores (now (kind .entry)) (now (arg .entry)) (now (class .entry))) (stores (now (kind .exit)) (now (arg .exit)) (now (class .exit))) r ⌝ }
 {
-    match atom(p, kind, arg, class, c) {
-        Got::Bad(k) => Got::Bad(k),
+    match atom(p, kind, arg, class, c, left) {
+        Got::Failed => Got::Failed,
         Got::Done(d) => {
             let at = d.at;
-            let k = sign(p, at);
+            let k = sign(p, at as usize);
             if k == 0 {
                 return Got::Done(d);
             }
@@ -172,25 +175,28 @@ fn atom(
     arg: &mut [u16; 1024],
     class: &mut [u64; 256],
     c: Cursor,
+    left: u16,
 ) -> Got
     requires { ⌜ Room (stores (now kind) (now arg) (now class)) × Within (length (now p)) c ⌝ }
-    ensures { λ r. ⌜ Atomed (now (p .entry)) c (stores (now (kind .entry)) (now (arg .entry)) (now (class .entry))) (stores (now (kind .exit)) (now (arg .exit)) (now (class .exit))) r ⌝ }
+    ensures { λ r. ⌜ Atomed (now (p .entry)) left c (stores (now (kind .entry)) (now (arg .entry)) (now (class .entry))) (stores (now (kind .exit)) (now (arg .exit)) (now (class .exit))) r ⌝ }
 {
-    let at = c.at;
+    let at = c.at as usize;
     if stands(p, at, b'(') {
+        if left == 0 {
+            return Got::Failed;
+        }
         if stands(p, at + 1, b')') {
             return Got::Done(nodes::empty(kind, arg, c));
         }
-        match list(p, kind, arg, class, nodes::past(c)) {
-            Got::Bad(k) => return Got::Bad(k),
+        match list(p, kind, arg, class, nodes::past(c), left - 1) {
+            Got::Failed => return Got::Failed,
             Got::Done(d) => {
-                let end = d.at;
-                if end < p.len() {
-                    return Got::Done(nodes::shut(d));
+                if (d.at as usize) < p.len() {
+                    return Got::Done(nodes::past(d));
                 }
-                return Got::Bad(end);
+                return Got::Failed;
             }
         }
     }
-    single(p, kind, arg, class, c)
+    single(p, kind, arg, class, c, left)
 }

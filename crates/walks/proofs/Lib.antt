@@ -7,5 +7,6 @@ pub mod Written
 pub mod Looks
 pub mod Entering
 pub mod Resuming
+pub mod Spines
 pub mod Follows
 pub mod Rooted

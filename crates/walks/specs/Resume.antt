@@ -1,8 +1,9 @@
 -- What the walk on from a position asks and what it does. Assumes nothing: these are definitions.
 use mathlib.Core.Path.{_≡_}
-use mathlib.Core.Bool.{Bool, false}
+use mathlib.Core.Bool.{Bool, true, false}
 use mathlib.Core.List.{List}
-use Prim.Native.Nat.{ℕ, suc, _+_, _*_, _<_, _^_}
+use Prim.Native.Nat.{ℕ, suc, _+_, _-_, _*_, _≤_, _<_, _^_}
+use lib.ListN.{getD}
 use Rattle.meaning.specs.Expression.{Re, marks}
 use Rattle.meaning.specs.Tree.{closing}
 use Rattle.grammar.specs.Holds.{Holds}
@@ -24,6 +25,26 @@ pub record Placed (ks gs : List ℕ) (i j from : ℕ) : Type 0 where
   pub inside : In p e j
   pub few : m + marks e < 128
   pub room : from + 8 * marks e < 2 ^ 64
+
+-- node n has two parts, and position j is in the right one: us has where the positions of each node end
+pub record Rightward (ks gs us : List ℕ) (n j : ℕ) : Type 0 where
+  pub two : 2 ≤ getD ks n 0
+  pub pair : getD ks n 0 ≤ 3
+  pub past : getD us (getD gs n 0) 0 ≤ j
+
+abbrev pub Whether-right : List ℕ → List ℕ → List ℕ → ℕ → ℕ → Bool → Type 0
+Whether-right ks gs us n j true = Rightward ks gs us n j
+Whether-right ks gs us n j false = Rightward ks gs us n j → ⊥
+
+-- from node i on to right parts, each of which has the position j
+pub data Spine (ks gs us : List ℕ) (i j : ℕ) : ℕ → Type 0 where
+  from-here : Spine ks gs us i j i
+  further : {n : ℕ} → Spine ks gs us i j n → Rightward ks gs us n j → Spine ks gs us i j (n - 1)
+
+-- and no further than node n
+pub record Holder (ks gs us : List ℕ) (i j n : ℕ) : Type 0 where
+  pub spine : Spine ks gs us i j n
+  pub last : Rightward ks gs us n j → ⊥
 
 -- the walk on from position j of node i, from `from` on, is the run of what it holds, whatever that is
 pub record ResumesAt (ks gs : List ℕ) (i j : ℕ) (goal : Set) (pass : Bool) (t t′ : List ℕ) (from : ℕ) (r : Step) : Type 0 where

@@ -30,13 +30,13 @@ pub fn enter<'a>(
     ensures { λ r. ⌜ EntersAt (now (kind .entry)) (now (arg .entry)) i goal pass (now (tree .entry)) (now (tree .exit)) at r ⌝ }
 {
     let k = kind[i];
-    if k < 2 {
-        if k == 0 {
+    if k < kinds::CAT {
+        if k == kinds::EPS {
             return Step::Passed(at, false);
         }
         return Step::Stopped(wide(arg[i]), at, false);
     }
-    if k <= 3 {
+    if k <= kinds::ALT {
         return enter_pair(kind, arg, null, first, i, goal, pass, tree, at);
     }
     let part = i - 1;
@@ -70,7 +70,7 @@ fn enter_pair<'a>(
     let left = wide(arg[i]);
     let right = i - 1;
     let other = open_to(null, first, right, goal, pass);
-    if k == 2 {
+    if k == kinds::CAT {
         let s = enter(kind, arg, null, first, left, goal, other, tree, at);
         return on(kind, arg, null, first, right, goal, pass, tree, s);
     }

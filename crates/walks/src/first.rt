@@ -12,7 +12,7 @@ fn first_leaf(k: u8, p: usize) -> Set
     requires { ⌜ (k ≡ 1 → p < limit) ⌝ }
     ensures { λ r. ⌜ ((q : ℕ) → has r q ≡ leafFirst k p q) ⌝ }
 {
-    if k == 1 {
+    if k == kinds::POS {
         return Set::of(p);
     }
     Set::empty()
@@ -22,7 +22,7 @@ fn first_leaf(k: u8, p: usize) -> Set
 fn first_two(k: u8, n: u8, x: Set, y: Set) -> Set
     ensures { λ r. ⌜ ((q : ℕ) → has r q ≡ twoFirst k n (has x q) (has y q)) ⌝ }
 {
-    if k == 3 {
+    if k == kinds::ALT {
         return x.union(y);
     }
     if n == 0 {
@@ -36,7 +36,7 @@ fn end_leaf(k: u8, p: u16) -> u16
     requires { ⌜ (k ≡ 1 → p < limit) ⌝ }
     ensures { λ r. ⌜ r ≡ leafEnd k p ⌝ }
 {
-    if k == 1 {
+    if k == kinds::POS {
         return p + 1;
     }
     0
@@ -70,13 +70,13 @@ pub fn opens_first<'a>(
 {
     let k = kind[i];
     let a = arg[i];
-    if k < 2 {
+    if k < kinds::CAT {
         first_leaf(k, wide(a)).store(first, i);
         upto[i] = end_leaf(k, a);
         return;
     }
     let right = i - 1;
-    if k > 3 {
+    if k > kinds::ALT {
         opens_first(kind, arg, null, first, upto, right);
         Set::load(first, right).store(first, i);
         upto[i] = upto[right];

@@ -17,7 +17,7 @@ fn beyond(k: u8, null: &[u8; 1024], first: &[u64; 1024], j: usize, after: Set) -
     ensures { λ r. ⌜ ((q : ℕ) → has r q ≡ nextOf k (has (row (now (first .entry)) j) q) (getD (now (null .entry)) j 0) (has after q)) ⌝ }
 {
     let opens = Set::load(first, j);
-    if k == 2 {
+    if k == kinds::CAT {
         if null[j] == 0 {
             return opens;
         }
@@ -35,7 +35,7 @@ fn beyond(k: u8, null: &[u8; 1024], first: &[u64; 1024], j: usize, after: Set) -
 fn ended(k: u8, n: u8, end: bool) -> bool
     ensures { λ r. ⌜ r ≡ lastOf k n end ⌝ }
 {
-    if k == 3 {
+    if k == kinds::ALT {
         return end;
     }
     if n == 0 {
@@ -64,8 +64,8 @@ pub fn may_follow<'a>(
 {
     let k = kind[i];
     let a = wide(arg[i]);
-    if k < 2 {
-        if k == 0 {
+    if k < kinds::CAT {
+        if k == kinds::EPS {
             return ends;
         }
         after.store(follow, a);
@@ -76,7 +76,7 @@ pub fn may_follow<'a>(
     }
     let right = i - 1;
     let next = beyond(k, null, first, right, after);
-    if k > 3 {
+    if k > kinds::ALT {
         return may_follow(kind, arg, null, first, follow, right, next, end, ends);
     }
     let last = ended(k, null[right], end);

@@ -45,18 +45,18 @@ pub fn open_to(null: &[u8; 1024], first: &[u64; 1024], j: usize, goal: Set, pass
 pub fn repeats(k: u8) -> bool
     ensures { λ r. ⌜ r ≡ (eqb k 5 || eqb k 7) ⌝ }
 {
-    if k == 5 {
+    if k == kinds::STAR {
         return true;
     }
-    k == 7
+    k == kinds::OPT
 }
 
 // Does a node of kind k make more than one turn? A star and a plus do.
 pub fn turns_again(k: u8) -> bool
     ensures { λ r. ⌜ r ≡ (eqb k 5 || eqb k 6) ⌝ }
 {
-    if k == 5 {
+    if k == kinds::STAR {
         return true;
     }
-    k == 6
+    k == kinds::PLUS
 }

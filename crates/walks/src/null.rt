@@ -8,7 +8,7 @@ use crate::node::wide;
 fn null_leaf(k: u8) -> u8
     ensures { λ r. ⌜ r ≡ leafNull k ⌝ }
 {
-    if k == 0 {
+    if k == kinds::EPS {
         return 1;
     }
     0
@@ -18,10 +18,10 @@ fn null_leaf(k: u8) -> u8
 fn null_one(k: u8, part: u8) -> u8
     ensures { λ r. ⌜ r ≡ oneNull k part ⌝ }
 {
-    if k == 5 {
+    if k == kinds::STAR {
         return 1;
     }
-    if k == 7 {
+    if k == kinds::OPT {
         return 1;
     }
     part
@@ -31,7 +31,7 @@ fn null_one(k: u8, part: u8) -> u8
 fn null_two(k: u8, left: u8, right: u8) -> u8
     ensures { λ r. ⌜ r ≡ twoNull k left right ⌝ }
 {
-    if k == 2 {
+    if k == kinds::CAT {
         if left == 0 {
             return 0;
         }
@@ -50,12 +50,12 @@ pub fn may_be_empty<'a>(kind: &'a [u8; 1024], arg: &'a [u16; 1024], null: &mut [
     ensures { λ _. ⌜ Walked length number (NullAt (now (kind .entry)) (now (arg .entry))) (now (kind .entry)) (now (arg .entry)) i (now (null .entry)) (now (null .exit)) ⌝ }
 {
     let k = kind[i];
-    if k < 2 {
+    if k < kinds::CAT {
         null[i] = null_leaf(k);
         return;
     }
     let right = i - 1;
-    if k > 3 {
+    if k > kinds::ALT {
         may_be_empty(kind, arg, null, right);
         null[i] = null_one(k, null[right]);
         return;

@@ -4,7 +4,7 @@ ghost use lib.ListN.{getD};
 ghost use Rattle.walks.specs.Tables.{Known, number, EndAt};
 ghost use Rattle.walks.specs.Steps.{cursor};
 ghost use Rattle.walks.specs.Enter.{Ready, Scanned};
-ghost use Rattle.walks.specs.Resume.{Placed, ResumesAt, AgainAt};
+ghost use Rattle.walks.specs.Resume.{Placed, ResumesAt, AgainAt, Whether-right, Holder};
 use crate::enter::on;
 use crate::enter::turn;
 use crate::look::goes_or;
@@ -46,6 +46,38 @@ fn again<'a>(
     }
 }
 
+// Is node n one with two parts, and position j in the right one?
+fn is_right(kind: &[u8; 1024], arg: &[u16; 1024], upto: &[u16; 1024], n: usize, j: usize) -> bool
+    requires { ⌜ Placed (now kind) (now arg) n j 0 ⌝ }
+    ensures { λ r. ⌜ Whether-right (now (kind .entry)) (now (arg .entry)) (now (upto .entry)) n j r ⌝ }
+{
+    let k = kind[n];
+    if k < kinds::CAT {
+        return false;
+    }
+    if k > kinds::ALT {
+        return false;
+    }
+    let left = wide(arg[n]);
+    if wide(upto[left]) <= j {
+        return true;
+    }
+    false
+}
+
+// From node i on to the right part, as long as position j is in it: nothing is written on that way.
+fn holder(kind: &[u8; 1024], arg: &[u16; 1024], upto: &[u16; 1024], i: usize, j: usize) -> usize
+    requires { ⌜ Placed (now kind) (now arg) i j 0 ⌝ }
+    requires { ⌜ Known number (EndAt (now kind) (now arg)) (now upto) i ⌝ }
+    ensures { λ r. ⌜ Holder (now (kind .entry)) (now (arg .entry)) (now (upto .entry)) i j r ⌝ }
+{
+    let mut n = i;
+    while is_right(kind, arg, upto, n, j) {
+        n = n - 1;
+    }
+    n
+}
+
 // Goes on in node i from its position j, which was just read, on the way to a position of the goal or, if `pass`, past the node, and
 // writes the marks on the way from `at` on.
 pub fn resume<'a>(
@@ -67,10 +99,10 @@ pub fn resume<'a>(
     ensures { λ r. ⌜ ResumesAt (now (kind .entry)) (now (arg .entry)) i j goal pass (now (tree .entry)) (now (tree .exit)) at r ⌝ }
 {
     let k = kind[i];
-    if k < 2 {
+    if k < kinds::CAT {
         return Step::Passed(at, false);
     }
-    if k <= 3 {
+    if k <= kinds::ALT {
         return resume_pair(kind, arg, null, first, upto, i, j, goal, pass, tree, at);
     }
     let part = i - 1;
@@ -104,14 +136,14 @@ fn resume_pair<'a>(
     requires { ⌜ (2 ≤ getD (now kind) i 0) × (getD (now kind) i 0 ≤ 3) ⌝ }
     ensures { λ r. ⌜ ResumesAt (now (kind .entry)) (now (arg .entry)) i j goal pass (now (tree .entry)) (now (tree .exit)) at r ⌝ }
 {
+    let n = holder(kind, arg, upto, i, j);
+    if n < i {
+        return resume(kind, arg, null, first, upto, n, j, goal, pass, tree, at);
+    }
     let k = kind[i];
     let left = wide(arg[i]);
     let right = i - 1;
-    let end = wide(upto[left]);
-    if end <= j {
-        return resume(kind, arg, null, first, upto, right, j, goal, pass, tree, at);
-    }
-    if k == 3 {
+    if k == kinds::ALT {
         return resume(kind, arg, null, first, upto, left, j, goal, pass, tree, at);
     }
     let more = open_to(null, first, right, goal, pass);

@@ -6,21 +6,22 @@ use mathlib.Core.List.{List}
 use Prim.Native.Nat.{ℕ, _≤_, _<_}
 use lib.ListN.{length, getD}
 use Rattle.meaning.specs.Promise.{long-pattern}
+use Rattle.grammar.specs.Contract.{read-fails}
 use Rattle.grammar.specs.Holds.{nodes-some}
 use Rattle.pattern.specs.Stores.{stores}
-use Rattle.pattern.proofs.Whole.{Whole, whole, refusal, stopped, cut-short, too-deep, many-positions, many-marks, numberable, read-whole}
+use Rattle.pattern.proofs.Whole.{Whole, whole, refusal, cut-short, many-positions, many-marks, numberable, read-whole}
 use Rattle.pattern.proofs.read.Statement.{statement}
 use Rattle.pattern.proofs.read.Tie as tie
 
 -- where the list was read: the pattern, which is short
-abbrev text : tie.After-known-told2 → List ℕ
+abbrev text : tie.After-known-told → List ℕ
 text c = c .before .before .before .before .before .before .before .before .before .before .args .pattern .now
 
-short : (c : tie.After-known-told2) → length (text c) ≤ 512
+short : (c : tie.After-known-told) → length (text c) ≤ 512
 short c = c .before .before .before .before .before .before .before .before .if1 .left
 
 -- the list that was read, and the byte that it ends before
-listed : (c : tie.After-known-told2) → let d = c .before .d .given .0 .0 in let left = c .before .before .before .list .last in
+listed : (c : tie.After-known-told) → let d = c .before .d .given .0 .0 in let left = c .before .before .before .list .last in
     Whole (text c) d (stores (left .1 .0) (left .1 .1 .0) (left .1 .1 .1 .0)) × (d .at < length (text c) → getD (text c) (d .at) 0 ≡ 41)
 listed c = let h = rw (c .before .d .given .1) at (c .before .before .before .list .ensures) in
     (whole (c .before .before .before .before .start .ensures) (h .0), h .1)
@@ -37,8 +38,13 @@ start-requires c κs = search needs
 list-requires : tie.Need-list-requires
 list-requires c κs = search needs
 
-enum-known-place : tie.Need-enum-known-place
-enum-known-place c = search needs
+enum-told : tie.Need-enum-told
+enum-told c = search needs
+
+wrong-requires : tie.Need-wrong-requires
+wrong-requires c κs = let called = c .before .before in
+    let bad = rw (c .enum-told .given .1) at (called .list .ensures) in
+    (called .before .before .before .before .before .if1 .left, read-fails (rw (called .before .start .ensures .at) at bad))
 
 refused-requires-2 : tie.Need-refused-requires-2
 refused-requires-2 c κs = search needs
@@ -46,11 +52,14 @@ refused-requires-2 c κs = search needs
 enum-known-d : tie.Need-enum-known-d
 enum-known-d c = search needs
 
+cast-at : tie.Need-cast-at
+cast-at c = search needs
+
 refused-requires-3 : tie.Need-refused-requires-3
 refused-requires-3 c κs = search needs
 
 returns-2 : tie.Need-returns-2
-returns-2 c = let read = c .before .before in let h = listed read in
+returns-2 c = let read = c .before .before .before in let h = listed read in
     let bytes = read .before .before .before .before .before .before .before .before .before .shared-slice-known .given in
     let inside = c .before .if2 .taken in
     refusal (c .refused3 .ensures) (cut-short (short read) (h .0) (λ i l. omega (arith, bytes i)) inside (h .1 inside))
@@ -59,42 +68,40 @@ refused-requires-4 : tie.Need-refused-requires-4
 refused-requires-4 c κs = search needs
 
 returns-3 : tie.Need-returns-3
-returns-3 c = let end = c .before .before .before in let read = end .before in
-    refusal (c .refused4 .ensures) (too-deep (short read) (listed read .0) (end .if2 .left) (c .before .if3 .taken))
+returns-3 c = let end = c .before .before .before in let read = end .before .before in
+    refusal (c .refused4 .ensures) (many-positions (short read) (listed read .0) (end .if2 .left) (c .before .if3 .taken))
 
 refused-requires-5 : tie.Need-refused-requires-5
 refused-requires-5 c κs = search needs
 
 returns-4 : tie.Need-returns-4
-returns-4 c = let depth = c .before .before .before in let end = depth .before .before in let read = end .before in
-    refusal (c .refused5 .ensures) (many-positions (short read) (listed read .0) (end .if2 .left) (depth .if3 .left) (c .before .if4 .taken))
+returns-4 c = let places = c .before .before .before in let end = places .before .before in let read = end .before .before in
+    refusal (c .refused5 .ensures) (many-marks (short read) (listed read .0) (end .if2 .left) (places .if3 .left) (c .before .if4 .taken))
 
-refused-requires-6 : tie.Need-refused-requires-6
-refused-requires-6 c κs = search needs
-
-returns-5 : tie.Need-returns-5
-returns-5 c = let places = c .before .before .before in let depth = places .before .before in let end = depth .before .before in let read = end .before in
-    let whole-list = listed read .0 in
-    refusal (c .refused6 .ensures) (many-marks (short read) whole-list (end .if2 .left) (depth .if3 .left) (places .if4 .left) (c .before .if5 .taken))
+cast-used : tie.Need-cast-used
+cast-used c = search needs
 
 sub-number : tie.Need-sub-number
 sub-number c = let h = listed (c .before .before .before .before .before .before .before .before .before) .0 in omega (arith, h .used, nodes-some (h .reading))
 
 number-requires : tie.Need-number-requires
-number-requires c κs = let marks = c .before .before in let places = marks .before .before in let depth = places .before .before in
-    let end = depth .before .before in let read = end .before in
-    numberable (short read) (listed read .0) (end .if2 .left) (depth .if3 .left) (places .if4 .left) (marks .if5 .left)
+number-requires c κs = let marks = c .before .before .before in let places = marks .before .before in
+    let end = places .before .before in let read = end .before .before in
+    numberable (short read) (listed read .0) (end .if2 .left) (places .if3 .left) (marks .if4 .left)
+
+cast-t19 : tie.Need-cast-t19
+cast-t19 c = search needs
+
+cast-t30 : tie.Need-cast-t30
+cast-t30 c = search needs
+
+returns-5 : tie.Need-returns-5
+returns-5 c = refusal (c .refused2 .ensures) (c .before .wrong .ensures)
 
 returns-6 : tie.Need-returns-6
-returns-6 c = let short-pattern = c .before .before .before .before .before .before .before .before .before .if1 .left in
-    let bytes = c .before .before .before .before .before .before .before .before .before .before .shared-slice-known .given in
-    let bad = rw (c .before .before .place .given .1) at (c .before .before .before .before .list .ensures) in
-    refusal (c .refused2 .ensures) (stopped short-pattern (λ i l. omega (arith, bytes i)) (c .before .before .before .before .before .start .ensures) bad)
-
-returns-7 : tie.Need-returns-7
-returns-7 c = let marks = c .before .before .before in let places = marks .before .before in let depth = places .before .before in
-    let end = depth .before .before in let read = end .before in let numbered = c .number .ensures in
-    read-whole (short read) (listed read .0) (end .if2 .left) (depth .if3 .left) (places .if4 .left) (marks .if5 .left) refl numbered refl refl refl refl
+returns-6 c = let numbered = c .before .before in let marks = numbered .before .before .before .before in let places = marks .before .before in
+    let end = places .before .before in let read = end .before .before in
+    read-whole (short read) (listed read .0) (end .if2 .left) (places .if3 .left) (marks .if4 .left) refl (numbered .number .ensures) refl refl refl refl
 
 pub read-spec : {M : Type 1} → statement M
 read-spec =
@@ -104,18 +111,21 @@ read-spec =
     returns
     start-requires
     list-requires
-    enum-known-place
+    enum-told
+    wrong-requires
     refused-requires-2
     enum-known-d
+    cast-at
     refused-requires-3
     returns-2
     refused-requires-4
     returns-3
     refused-requires-5
     returns-4
-    refused-requires-6
-    returns-5
+    cast-used
     sub-number
     number-requires
-    returns-6
-    returns-7)
+    cast-t19
+    cast-t30
+    returns-5
+    returns-6)

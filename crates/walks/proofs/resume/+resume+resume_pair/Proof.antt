@@ -1,15 +1,17 @@
 -- `walks::resume::resume`, `walks::resume::resume_pair`: the contracts are met, since the node number falls. Assumes nothing.
-use mathlib.Core.Path.{_∙_}
+use mathlib.Core.Path.{_≡_, refl, _∙_}
 use Prim.Native.Nat.{_+_, _-_, _*_}
 use native.Mathlib.Omega.{arith}
+use lib.ListN.{getD}
 use denote.Ref.{now}
 use Rattle.walks.specs.Tables.{Known, number, EndAt}
 use Rattle.walks.specs.Enter.{Scanned}
 use Rattle.walks.specs.Resume.{Placed}
 use Rattle.walks.proofs.Parts.{above}
 use Rattle.walks.proofs.Looks.{scanned-to}
-use Rattle.walks.proofs.Resuming.{end-read, placed-mark, placed-part, placed-close, placed-again, placed-below, placed-left, placed-right, placed-on}
-use Rattle.walks.proofs.Resuming.{resumes-leaf, resumes-again, resumes-close, resumes-right, resumes-left, resumes-cat}
+use Rattle.walks.proofs.Resuming.{end-read, placed-mark, placed-part, placed-close, placed-again, placed-below, placed-left, placed-on}
+use Rattle.walks.proofs.Resuming.{resumes-leaf, resumes-again, resumes-close, resumes-left, resumes-cat}
+use Rattle.walks.proofs.Spines.{placed-zero, left-end, spine-below, spine-placed, spine-resumes}
 use Prim.Native.Nat.{ℕ, _<_}
 use borrow.Fn.Kinds.{In}
 use borrow.Fn.PlainCycle.{Measures, is, falls, and}
@@ -25,6 +27,7 @@ use Rattle.walks.proofs.look.open_to.Reads as open-to-reads
 use Rattle.walks.proofs.look.turns_again.Reads as turns-again-reads
 use Rattle.walks.proofs.node.wide.Reads as wide-reads
 use Rattle.walks.proofs.resume.again.Reads as again-reads
+use Rattle.walks.proofs.resume.holder.Reads as holder-reads
 use Rattle.walks.proofs.step.close.Reads as close-reads
 use Rattle.walks.proofs.resume.+resume+resume_pair.{statement}
 use Rattle.walks.proofs.resume.+resume+resume_pair.Tie.{close}
@@ -64,21 +67,20 @@ resume-claims t = (
 )
 
 abbrev resume-pair-claims : ℕ → resume-pair-lts.Claims
-resume-pair-claims t = (wide-reads.Asked, wide-reads.Learnt, resume-below t, resume.Post, open-to-reads.Asked, open-to-reads.Learnt, on-reads.Asked, on-reads.Learnt)
+resume-pair-claims t = (
+  holder-reads.Asked,
+  holder-reads.Learnt,
+  resume-below t,
+  resume.Post,
+  wide-reads.Asked,
+  wide-reads.Learnt,
+  open-to-reads.Asked,
+  open-to-reads.Learnt,
+  on-reads.Asked,
+  on-reads.Learnt,
+)
 
 module _ (t : ℕ) where
-  -- where the positions of the left part end
-  ends : (c : resume-pair-lts.After-wide2 (resume-pair-claims t) (resume-pair-at t) resume-pair.Post)
-      → let read = c .before .before in
-      let args = read .before .before .before .before .args in
-      EndAt (now (args .kind)) (now (args .arg)) (read .wide .result) (c .wide2 .result)
-  ends c =
-      let read = c .before .before in
-      let entry = read .before .before .before .before in
-      let kinds = entry .pre .1 .1 .1 .1 in
-      let below = placed-below (entry .pre .1 .0) (kinds .0) (kinds .1) (read .wide .ensures) .0 in
-      end-read (now (entry .args .upto)) (entry .pre .1 .1 .1 .0) below (c .wide2 .ensures)
-
   -- what the walk on in the part of a node with one part asks
   resume-part : (c : resume-lts.Else2 (resume-claims t) (resume-at t) resume.Post)
       → let args = c .before .before .before .before .args in
@@ -95,26 +97,60 @@ module _ (t : ℕ) where
         (placed-part placed (c .if2 .left), (scanned-to (tables .0) (omega arith), λ n h. tables .1 n (omega arith))),
       )
 
+  -- places in the walk on from a node with two parts: its entry; position j is in the left part; that part's node is read
+  abbrev Entry : Type 0
+  Entry = resume-pair-lts.Start (resume-pair-claims t) (resume-pair-at t) resume-pair.Post
+
+  abbrev Stays : Type 0
+  Stays = resume-pair-lts.Else1 (resume-pair-claims t) (resume-pair-at t) resume-pair.Post
+
+  abbrev Left : Type 0
+  Left = resume-pair-lts.After-wide (resume-pair-claims t) (resume-pair-at t) resume-pair.Post
+
+  abbrev entry-of : Stays → Entry
+  entry-of c = c .before .before .before
+
+  abbrev stays-of : Left → Stays
+  stays-of c = c .before .before .before
+
+  -- the left part of the node stands before it
+  below : (c : Left) → (c .wide .result < entry-of (stays-of c) .args .i) × (c .wide .result < 1024)
+  below c =
+      let asked = entry-of (stays-of c) .pre .1 in
+      let pair = asked .1 .1 .1 in
+      placed-below (asked .0) (pair .0) (pair .1) (c .wide .ensures)
+
+  -- where its positions end: behind j
+  ends : (c : Left) → let args = entry-of (stays-of c) .args in
+      EndAt (now (args .kind)) (now (args .arg)) (c .wide .result) (getD (now (args .upto)) (c .wide .result) 0)
+  ends c = let entry = entry-of (stays-of c) in end-read (now (entry .args .upto)) (entry .pre .1 .1 .1 .0) (below c .0) refl
+
+  holds-j : (c : Left) → let args = entry-of (stays-of c) .args in args .j < getD (now (args .upto)) (c .wide .result) 0
+  holds-j c =
+      let stays = stays-of c in
+      let entry = entry-of stays in
+      let pair = entry .pre .1 .1 .1 .1 in
+      let held = stays .before .holder .ensures in
+      let same : stays .before .holder .result ≡ entry .args .i = omega (arith, stays .if1 .left, spine-below (held .spine)) in
+      left-end same (c .wide .ensures) (pair .0) (pair .1) (held .last)
+
   -- what the walk on in the left part asks
-  resume-pair-left : (c : resume-pair-lts.Else1 (resume-pair-claims t) (resume-pair-at t) resume-pair.Post)
-      → let read = c .before .before .before in
-      let args = read .before .before .before .before .args in
-      let left = read .wide .result in
+  resume-pair-left : (c : Left)
+      → let args = entry-of (stays-of c) .args in
+      let left = c .wide .result in
       (2 * left + 1 < t)
       × (Placed (now (args .kind)) (now (args .arg)) left (args .j) (args .at)
       × (Scanned (now (args .kind)) (now (args .arg)) (now (args .null)) (now (args .first)) left
       × Known number (EndAt (now (args .kind)) (now (args .arg))) (now (args .upto)) left))
   resume-pair-left c =
-      let ended = c .before in
-      let read = ended .before .before in
-      let entry = read .before .before .before .before in
+      let entry = entry-of (stays-of c) in
       let placed = entry .pre .1 .0 in
       let tables = entry .pre .1 .1 in
-      let kinds = tables .1 .1 in
-      let below = placed-below placed (kinds .0) (kinds .1) (read .wide .ensures) .0 in (
-        omega (arith, entry .pre .0, below),
+      let pair = tables .1 .1 in
+      let lower = below c .0 in (
+        omega (arith, entry .pre .0, lower),
         (
-          placed-left placed (ends ended) (kinds .0) (kinds .1) (read .wide .ensures) (c .if1 .left),
+          placed-left placed (ends c) (pair .0) (pair .1) (c .wide .ensures) (holds-j c),
           (scanned-to (tables .0) (omega arith), λ n h. tables .1 .0 n (omega arith)),
         ),
       )
@@ -225,50 +261,19 @@ module _ (t : ℕ) where
       (resumed .resume2 .ensures)
       (closed .close .ensures)
 
-  resume-pair-element-copy-out-k : resume-pair-lts.Need-element-copy-out-k (resume-pair-claims t) (resume-pair-at t) resume-pair.Post
-  resume-pair-element-copy-out-k c = c .before .pre .1 .0 .within
-
-  resume-pair-mul-wide : resume-pair-lts.Need-mul-wide (resume-pair-claims t) (resume-pair-at t) resume-pair.Post
-  resume-pair-mul-wide c = omega (arith, c .before .before .pre .1 .0 .within)
-
-  resume-pair-element-copy-out-wide : resume-pair-lts.Need-element-copy-out-wide (resume-pair-claims t) (resume-pair-at t) resume-pair.Post
-  resume-pair-element-copy-out-wide c = c .before .before .pre .1 .0 .within
-
-  resume-pair-wide-requires : resume-pair-lts.Need-wide-requires (resume-pair-claims t) (resume-pair-at t) resume-pair.Post
-  resume-pair-wide-requires c κs = tt
-
-  resume-pair-sub-right : resume-pair-lts.Need-sub-right (resume-pair-claims t) (resume-pair-at t) resume-pair.Post
-  resume-pair-sub-right c = let s = c .before .before .before .before .pre .1 in omega (arith, above (s .1 .1 .1 .0) (s .0 .holds))
-
-  -- the left part stands in the arrays
-  resume-pair-inside : (c : resume-pair-lts.After-wide (resume-pair-claims t) (resume-pair-at t) resume-pair.Post) → c .wide .result < 1024
-  resume-pair-inside c =
-      let asked = c .before .before .before .before .pre .1 in
-      let kinds = asked .1 .1 .1 in
-      placed-below (asked .0) (kinds .0) (kinds .1) (c .wide .ensures) .1
-
-  resume-pair-mul-wide-2 : resume-pair-lts.Need-mul-wide-2 (resume-pair-claims t) (resume-pair-at t) resume-pair.Post
-  resume-pair-mul-wide-2 c = omega (arith, resume-pair-inside c)
-
-  resume-pair-element-copy-out-wide-2 : resume-pair-lts.Need-element-copy-out-wide-2 (resume-pair-claims t) (resume-pair-at t) resume-pair.Post
-  resume-pair-element-copy-out-wide-2 c = resume-pair-inside c
-
-  resume-pair-wide-requires-2 : resume-pair-lts.Need-wide-requires-2 (resume-pair-claims t) (resume-pair-at t) resume-pair.Post
-  resume-pair-wide-requires-2 c κs = tt
+  resume-pair-holder-requires : resume-pair-lts.Need-holder-requires (resume-pair-claims t) (resume-pair-at t) resume-pair.Post
+  resume-pair-holder-requires c κs = let asked = c .before .pre .1 in (placed-zero (asked .0), asked .1 .1 .0)
 
   resume-pair-resume-requires : resume-pair-lts.Need-resume-requires (resume-pair-claims t) (resume-pair-at t) resume-pair.Post
   resume-pair-resume-requires c κs =
-      let right = c .before in
-      let ended = right .before in
-      let read = ended .before .before in
-      let entry = read .before .before .before .before in
-      let placed = entry .pre .1 .0 in
-      let tables = entry .pre .1 .1 in
-      let kinds = tables .1 .1 in (
-        omega (arith, entry .pre .0, above (kinds .0) (placed .holds)),
+      let goes = c .before in
+      let spine = goes .before .holder .ensures .spine in
+      let entry = goes .before .before .before in
+      let tables = entry .pre .1 .1 in (
+        omega (arith, entry .pre .0, goes .if1 .taken),
         (
-          placed-right placed (ends ended) (kinds .0) (kinds .1) (read .wide .ensures) (right .if1 .taken),
-          (scanned-to (tables .0) (omega arith), λ n h. tables .1 .0 n (omega arith)),
+          spine-placed (tables .1 .0) (entry .pre .1 .0) spine,
+          (scanned-to (tables .0) (spine-below spine), λ n h. tables .1 .0 n (omega (arith, h, spine-below spine))),
         ),
       )
 
@@ -278,12 +283,24 @@ module _ (t : ℕ) where
   resume-pair-returns : resume-pair-lts.Need-returns (resume-pair-claims t) (resume-pair-at t) resume-pair.Post
   resume-pair-returns c =
       let resumed = c .before .before in
-      let right = resumed .before .before in
-      let ended = right .before in
-      let read = ended .before .before in
-      let entry = read .before .before .before .before in
-      let kinds = entry .pre .1 .1 .1 .1 in
-      resumes-right _ _ (ends ended) (kinds .0) (kinds .1) (read .wide .ensures) (right .if1 .taken) (resumed .resume .ensures)
+      let goes = resumed .before .before in
+      let asked = goes .before .before .before .pre .1 in
+      spine-resumes (asked .1 .1 .0) (asked .0) (goes .before .holder .ensures .spine) (resumed .resume .ensures)
+
+  resume-pair-element-copy-out-k : resume-pair-lts.Need-element-copy-out-k (resume-pair-claims t) (resume-pair-at t) resume-pair.Post
+  resume-pair-element-copy-out-k c = entry-of c .pre .1 .0 .within
+
+  resume-pair-mul-wide : resume-pair-lts.Need-mul-wide (resume-pair-claims t) (resume-pair-at t) resume-pair.Post
+  resume-pair-mul-wide c = omega (arith, entry-of (c .before) .pre .1 .0 .within)
+
+  resume-pair-element-copy-out-wide : resume-pair-lts.Need-element-copy-out-wide (resume-pair-claims t) (resume-pair-at t) resume-pair.Post
+  resume-pair-element-copy-out-wide c = entry-of (c .before) .pre .1 .0 .within
+
+  resume-pair-wide-requires : resume-pair-lts.Need-wide-requires (resume-pair-claims t) (resume-pair-at t) resume-pair.Post
+  resume-pair-wide-requires c κs = tt
+
+  resume-pair-sub-right : resume-pair-lts.Need-sub-right (resume-pair-claims t) (resume-pair-at t) resume-pair.Post
+  resume-pair-sub-right c = omega (arith, below c .0)
 
   resume-pair-resume-requires-2 : resume-pair-lts.Need-resume-requires-2 (resume-pair-claims t) (resume-pair-at t) resume-pair.Post
   resume-pair-resume-requires-2 c κs = resume-pair-left (c .before .before)
@@ -296,23 +313,12 @@ module _ (t : ℕ) where
       let resumed = c .before .before in
       let alt = resumed .before .before in
       let left = alt .before in
-      let ended = left .before in
-      let read = ended .before .before in
-      let entry = read .before .before .before .before in
-      let kinds = entry .pre .1 .1 .1 .1 in
-      resumes-left _ _
-      (ends ended)
-      (kinds .0)
-      (kinds .1)
-      (read .wide .ensures)
-      (left .if1 .left)
-      (alt .if2 .taken)
-      (resumed .resume2 .ensures)
+      let pair = entry-of (stays-of left) .pre .1 .1 .1 .1 in
+      resumes-left _ _ (ends left) (pair .0) (pair .1) (left .wide .ensures) (holds-j left) (alt .if2 .taken) (resumed .resume2 .ensures)
 
   resume-pair-open-to-requires : resume-pair-lts.Need-open-to-requires (resume-pair-claims t) (resume-pair-at t) resume-pair.Post
   resume-pair-open-to-requires c κs =
-      let read = c .before .before .before .before in
-      let asked = read .before .before .before .before .pre .1 in
+      let asked = entry-of (stays-of (c .before)) .pre .1 in
       (omega (arith, asked .0 .within, asked .1 .0 .long), omega (arith, asked .0 .within))
 
   resume-pair-resume-requires-3 : resume-pair-lts.Need-resume-requires-3 (resume-pair-claims t) (resume-pair-at t) resume-pair.Post
@@ -322,19 +328,10 @@ module _ (t : ℕ) where
   resume-pair-on-requires c κs =
       let resumed = c .before .before .before in
       let left = resumed .before .before .before .before in
-      let ended = left .before in
-      let read = ended .before .before in
-      let entry = read .before .before .before .before in
-      let kinds = entry .pre .1 .1 .1 .1 in (
-        placed-on
-            (entry .pre .1 .0)
-            (ends ended)
-            (kinds .0)
-            (kinds .1)
-            (read .wide .ensures)
-            (left .if1 .left)
-            (resumed .resume3 .ensures),
-        scanned-to (entry .pre .1 .1 .0) (omega arith),
+      let asked = entry-of (stays-of left) .pre .1 in
+      let pair = asked .1 .1 .1 in (
+        placed-on (asked .0) (ends left) (pair .0) (pair .1) (left .wide .ensures) (holds-j left) (resumed .resume3 .ensures),
+        scanned-to (asked .1 .0) (omega arith),
       )
 
   resume-pair-same-length-3 : resume-pair-lts.Need-same-length-3 (resume-pair-claims t) (resume-pair-at t) resume-pair.Post
@@ -350,17 +347,15 @@ module _ (t : ℕ) where
       let looked = resumed .before .before in
       let cat = looked .before in
       let left = cat .before in
-      let ended = left .before in
-      let read = ended .before .before in
-      let entry = read .before .before .before .before in
-      let kinds = entry .pre .1 .1 .1 .1 in
+      let asked = entry-of (stays-of left) .pre .1 in
+      let pair = asked .1 .1 .1 in
       resumes-cat _ _
-      (ends ended)
-      (kinds .0)
-      (kinds .1)
-      (read .wide .ensures)
-      (left .if1 .left)
-      (entry .pre .1 .1 .0)
+      (ends left)
+      (pair .0)
+      (pair .1)
+      (left .wide .ensures)
+      (holds-j left)
+      (asked .1 .0)
       (cat .if2 .left)
       (looked .open-to .ensures)
       (resumed .resume3 .ensures)
@@ -375,8 +370,7 @@ pub +resume+resume-pair-spec : {M : Type 1} → statement M
     (resume-goes-or-requires t) (resume-resume-requires t) (resume-again-requires t) (resume-same-length-2 t) (resume-returns-3 t)
     (resume-resume-requires-2 t) (resume-close-requires t) (resume-same-length-3 t) (resume-returns-4 t))
     λ t. resume-pair-lts.spec (resume-pair-claims t) (resume-pair-at t) resume-pair.Post
+    (resume-pair-holder-requires t) (resume-pair-resume-requires t) (resume-pair-same-length t) (resume-pair-returns t)
     (resume-pair-element-copy-out-k t) (resume-pair-mul-wide t) (resume-pair-element-copy-out-wide t) (resume-pair-wide-requires t)
-    (resume-pair-sub-right t) (resume-pair-mul-wide-2 t) (resume-pair-element-copy-out-wide-2 t) (resume-pair-wide-requires-2 t)
-    (resume-pair-resume-requires t) (resume-pair-same-length t) (resume-pair-returns t) (resume-pair-resume-requires-2 t)
-    (resume-pair-same-length-2 t) (resume-pair-returns-2 t) (resume-pair-open-to-requires t) (resume-pair-resume-requires-3 t)
-    (resume-pair-on-requires t) (resume-pair-same-length-3 t) (resume-pair-returns-3 t)
+    (resume-pair-sub-right t) (resume-pair-resume-requires-2 t) (resume-pair-same-length-2 t) (resume-pair-returns-2 t)
+    (resume-pair-open-to-requires t) (resume-pair-resume-requires-3 t) (resume-pair-on-requires t) (resume-pair-same-length-3 t) (resume-pair-returns-3 t)

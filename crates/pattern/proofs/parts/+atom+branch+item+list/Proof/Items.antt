@@ -25,7 +25,7 @@ module _ (t : ℕ) where
   Entry = lts.Start calls (item-at t) item.Post
 
   abbrev Atom : Type 0
-  Atom = lts.After-known-told2 calls (item-at t) item.Post
+  Atom = lts.After-known-told calls (item-at t) item.Post
 
   abbrev entry-of : Atom → Entry
   entry-of c = c .before .before .before .before .before .before .before .before
@@ -45,7 +45,7 @@ module _ (t : ℕ) where
   entry-within c = c .pre .1 .1
 
   atom-read : (c : Atom) → let entry = entry-of c in
-      Atomed (entry .args .p .now) (entry .args .c) (given entry) (atom-left c) (Done (c .before .d .given .0 .0))
+      Atomed (entry .args .p .now) (entry .args .left) (entry .args .c) (given entry) (atom-left c) (Done (c .before .d .given .0 .0))
   atom-read c = rw (c .before .d .given .1) at (c .before .before .before .atom .ensures)
 
   atom-room : (c : Atom) → Room (atom-left c)
@@ -54,11 +54,14 @@ module _ (t : ℕ) where
   pub atom-requires : lts.Need-atom-requires calls (item-at t) item.Post
   atom-requires c κs = let entry = c .before .before .before .before in (omega (arith, entry .pre .0), entry .pre .1)
 
-  pub enum-known-k : lts.Need-enum-known-k calls (item-at t) item.Post
-  enum-known-k c = search needs
+  pub enum-told : lts.Need-enum-told calls (item-at t) item.Post
+  enum-told c = search needs
 
   pub enum-known-d : lts.Need-enum-known-d calls (item-at t) item.Post
   enum-known-d c = search needs
+
+  pub cast-sign : lts.Need-cast-sign calls (item-at t) item.Post
+  cast-sign c = search needs
 
   pub sign-requires : lts.Need-sign-requires calls (item-at t) item.Post
   sign-requires c κs = search needs
@@ -74,7 +77,7 @@ module _ (t : ℕ) where
       omega (arith, r, h .moved, entry-within (entry-of read))
 
   pub returns-2 : lts.Need-returns-2 calls (item-at t) item.Post
-  returns-2 c = rw (c .before .k .given .1) at (c .before .before .before .atom .ensures)
+  returns-2 c = rw (c .enum-told .given .1) at (c .before .before .atom .ensures)
 
   pub returns-3 : lts.Need-returns-3 calls (item-at t) item.Post
   returns-3 c = let test = c .before .before .before in

@@ -1,4 +1,5 @@
--- The measure of the cycle of calls {atom, branch, item, list}: four for each byte that is left, and the member's rank. Assumes nothing.
+-- The measure of the cycle of calls {atom, branch, item, list}: four for each byte that is left and each group that may still be opened, and
+-- the member's rank. Assumes nothing.
 use borrow.Fn.Kinds.{In}
 use borrow.Fn.PlainCycle.{Measures, is, falls, and}
 use Prim.Native.Nat.{ℕ, _+_, _-_, _*_, _<_}
@@ -13,16 +14,16 @@ use Rattle.pattern.proofs.parts.list.Reads as list
 use Rattle.pattern.proofs.parts.list.Kinds as list-kinds
 
 abbrev pub μ-atom : Measures 4 atom-kinds.ps ℕ
-μ-atom κs a = 4 * (length (a .0 .now) - a .1 .1 .1 .1 .0 .at)
+μ-atom κs a = 4 * (length (a .0 .now) - a .1 .1 .1 .1 .0 .at + a .1 .1 .1 .1 .1 .0)
 
 abbrev pub μ-branch : Measures 4 branch-kinds.ps ℕ
-μ-branch κs a = 4 * (length (a .0 .now) - a .1 .1 .1 .1 .0 .at) + 2
+μ-branch κs a = 4 * (length (a .0 .now) - a .1 .1 .1 .1 .0 .at + a .1 .1 .1 .1 .1 .0) + 2
 
 abbrev pub μ-item : Measures 4 item-kinds.ps ℕ
-μ-item κs a = 4 * (length (a .0 .now) - a .1 .1 .1 .1 .0 .at) + 1
+μ-item κs a = 4 * (length (a .0 .now) - a .1 .1 .1 .1 .0 .at + a .1 .1 .1 .1 .1 .0) + 1
 
 abbrev pub μ-list : Measures 4 list-kinds.ps ℕ
-μ-list κs a = 4 * (length (a .0 .now) - a .1 .1 .1 .1 .0 .at) + 3
+μ-list κs a = 4 * (length (a .0 .now) - a .1 .1 .1 .1 .0 .at + a .1 .1 .1 .1 .1 .0) + 3
 
 abbrev pub atom-at : ℕ → In 4 atom-kinds.ps
 atom-at t = and 4 atom-kinds.ps (is 4 atom-kinds.ps μ-atom t) atom.Pre
