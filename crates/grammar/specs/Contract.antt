@@ -7,7 +7,7 @@ use native.Mathlib.Omega.{arith}
 use lib.ListN.{length, getD}
 use Rattle.meaning.specs.Expression.{Re, eps, pos, cat, alt, branch}
 use Rattle.meaning.specs.Grammar.{one-of, any, only, signs, Pattern}
-use Rattle.grammar.specs.Machine.{Sym, s-open, s-close, s-bar, s-dot, s-back, s-bad, s-plain, Sign, symbol, kind, sign-kind}
+use Rattle.grammar.specs.Machine.{Sym, s-open, s-close, s-dot, s-back, s-bad, s-plain, Sign, symbol, kind, sign-kind}
 use Rattle.grammar.specs.Machine.{Front, first, after, Frame, frame, State, ready, atom, quote, dead}
 use Rattle.grammar.specs.Machine.{fresh, join, chain, act, act-close, step, none, read, result, alive}
 use Rattle.grammar.specs.Reads.{Settles, by-sign, by-atom, settled, Branches, branches, bar-branch, Ends, ends, ends-result, close-list, plain-kind}

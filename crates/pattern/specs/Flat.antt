@@ -1,7 +1,7 @@
 -- What the flat scan says of itself. Assumes nothing: these are definitions.
 use mathlib.Core.Path.{_≡_}
 use mathlib.Core.List.{List}
-use Prim.Native.Nat.{ℕ, _<_}
+use Prim.Native.Nat.{ℕ}
 use lib.ListN.{length, getD}
 use Rattle.meaning.specs.Expression.{Re}
 use Rattle.grammar.specs.Machine.{Sign}
