@@ -12,7 +12,7 @@ use Rattle.grammar.specs.Machine.{s-class, kind, n-char, inner}
 use Rattle.grammar.specs.Machine.{Acc, empty, ranges, Frame, m-next, m-quote, m-low, m-dash, m-dash-quote, State, atom, inside, dead, add, step, none, result, alive}
 use Rattle.grammar.specs.Reads.{plain-inner, Ranged, by-range, by-char, close-class}
 use Rattle.grammar.specs.Place.{seen, seen-suc, Stops}
-use Rattle.grammar.specs.Contract.{Atom-done, Atom-bad, on, one, cut-off}
+use Rattle.grammar.specs.Contract.{Atom-done, Atom-bad, on, one, killed, cut-off}
 
 -- an end of a class item, from i up to j
 pub data Char-at (s : List ℕ) (i : ℕ) : ℕ → ℕ → Type 0 where
@@ -108,8 +108,7 @@ low-bad {s} {i} {c = c} {F = F} {K = K} (char-cut h e) r w = cut-off (i + 1) (in
 
 -- the machine dies of the byte at i
 dies-of : {s : List ℕ} (i : ℕ) (st : State) → i < length s → seen s i ≡ st → alive st ≡ true → step st (getD s i 0) ≡ dead → Stops s i
-dies-of {s} i st h q a k = record
-    { within = omega arith; live = ap alive q ∙ a; dies = λ l. ap (λ (x : State). step x (getD s i 0)) q ∙ k; unfinished = λ l. absurd (omega arith) }
+dies-of {s} i st h q a k = killed i h (ap alive q ∙ a) (ap (λ (x : State). step x (getD s i 0)) q ∙ k)
 
 -- the high end, behind a dash: whole, below the low end (then its last byte is bad), or not there
 module _ (s : List ℕ) (i : ℕ) (c : Acc) (x : ℕ) (F : Frame) (K : List Frame) (q : seen s i ≡ inside (m-dash c x) F K) where
