@@ -1,6 +1,6 @@
 // A branch list, a branch, an item and an atom: four functions that call each other in a cycle. Each takes how many groups may still be
 // opened.
-ghost use Prim.Native.Nat.{_+_, _<_};
+ghost use Prim.Native.Nat.{ℕ, _+_, _<_};
 ghost use lib.ListN.{length};
 ghost use Rattle.pattern.specs.Stores.{stores, Room, Within};
 ghost use Rattle.pattern.specs.Parts.{Byte-at, Whether-at, Going, Signed, Atomed, Itemed, Branched, Listed};
@@ -70,10 +70,9 @@ fn single(
     arg: &mut [u16; 1024],
     class: &mut [u64; 256],
     c: Cursor,
-    left: u16,
 ) -> Got
     requires { ⌜ Room (stores (now kind) (now arg) (now class)) × Within (length (now p)) c × (Byte-at (now p) (c .at) 40 → ⊥) ⌝ }
-    ensures { λ r. ⌜ Atomed (now (p .entry)) left c (stores (now (kind .entry)) (now (arg .entry)) (now (class .entry))) (stores (now (kind .exit)) (now (arg .exit)) (now (class .exit))) r ⌝ }
+    ensures { λ r. ⌜ ((left : ℕ) → Atomed (now (p .entry)) left c (stores (now (kind .entry)) (now (arg .entry)) (now (class .entry))) (stores (now (kind .exit)) (now (arg .exit)) (now (class .exit))) r) ⌝ }
 {
     match letters::kept(p, c.at as usize, class, c.positions) {
         Past::Not(_) => Got::Failed,
@@ -198,5 +197,5 @@ fn atom(
             }
         }
     }
-    single(p, kind, arg, class, c, left)
+    single(p, kind, arg, class, c)
 }

@@ -29,12 +29,12 @@ position-requires c κs = let kept = c .before .before .before .before .before i
     omega (arith, entry .pre .0, entry .pre .1, h .on)
 
 returns : tie.Need-returns
-returns c = let bad = rw (c .enum-told .given .1) at (c .before .before .kept .ensures) in atom-fails (bad .0)
+returns c = let bad = rw (c .enum-told .given .1) at (c .before .before .kept .ensures) in λ left. atom-fails (bad .0)
 
 returns-2 : tie.Need-returns-2
 returns-2 c = let kept = c .before .before .before .before .before .before in
     let h = rw (c .before .before .before .before .next .given .1) at (kept .kept .ensures) in
-    letter-read h (c .position .ensures .0) (c .position .ensures .1)
+    λ left. letter-read h (c .position .ensures .0) (c .position .ensures .1)
 
 pub single-spec : {M : Type 1} → statement M
 single-spec =

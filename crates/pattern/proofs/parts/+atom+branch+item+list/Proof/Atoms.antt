@@ -161,4 +161,4 @@ module _ (t : ℕ) where
       (entry-room entry, entry-within entry, rw (test .if1 .left) at (test .before .stands .ensures))
 
   pub returns-6 : lts.Need-returns-6 calls (atom-at t) atom.Post
-  returns-6 c = c .single .ensures
+  returns-6 c = let entry = c .before .before .before .before .before .before .before .before in c .single .ensures (entry .args .left)
