@@ -32,8 +32,8 @@ typedef char dimmhalt_answers_have_32_bits[sizeof(unsigned int) == 4 ? 1 : -1];
  * The verdict on a report. It is one of the numbers above for any bytes whatever; no byte ends a row, not 0 and not 10.
  *
  * The caller owes this, and nothing else:
- *   - the thread has 160 KiB of stack left: on the pattern that takes the most, 448 letters in 64 open groups, a thread that does nothing but
- *     call was measured to need 148, and the tests hold it to 160;
+ *   - the thread has 160 KiB of stack left: on the pattern that took the most of all that were tried, 448 letters in 64 open groups, a thread
+ *     that does nothing but call was measured to need 148, and the tests hold it to 160;
  *   - pattern and text are not null and point to pattern_length and text_length bytes that can be read and that no one writes during the
  *     call; the two may overlap;
  *   - for an empty pattern or text, any pointer that is not null, and length 0: nothing is read through it;
