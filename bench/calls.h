@@ -1,6 +1,6 @@
 // The calls that are measured, ours and the peers'. Each takes a work and answers what went wrong, or an empty text.
 //
-// Built with HAVE_TREE, HAVE_VERDICT where the archives of those calls are linked.
+// Built with HAVE_OURS where our archive is linked.
 #ifndef CALLS_H
 #define CALLS_H
 
@@ -13,76 +13,65 @@
 #include <string>
 #include <vector>
 
+#include "dimmhalt.h"
 #include "works.h"
-
-// A slice is a pointer and a length. The answer is number + 16 * flag + 32 * value.
-extern "C" uint64_t dimmhalt_first_tree(const uint8_t *pattern, size_t pattern_len, const uint8_t *text, size_t text_len, uint64_t *cells,
-                                        size_t cells_len, uint16_t *tree, size_t tree_len);
-extern "C" uint32_t dimmhalt_verdict(const uint8_t *pattern, size_t pattern_len, const uint8_t *text, size_t text_len);
 
 namespace {
 
 const char not_built[] = "not built";
 
-[[maybe_unused]] uint64_t cells[text_limit + 1];
-[[maybe_unused]] uint16_t tree[528384];  // no tree is longer
+#ifdef HAVE_OURS
+
+uint64_t cells[DIMMHALT_MOST_CELLS];
+uint16_t tree[DIMMHALT_MOST_ROOM];
+uint64_t figures[DIMMHALT_FIRST_TREE_FIGURES];
+
+const uint8_t *bytes_of(const string &s) { return reinterpret_cast<const uint8_t *>(s.data()); }
 
 string ours(const Work &w) {
-#ifdef HAVE_TREE
-    uint64_t r = dimmhalt_first_tree(reinterpret_cast<const uint8_t *>(w.pattern.data()), w.pattern.size(),
-                                     reinterpret_cast<const uint8_t *>(w.text.data()), w.text.size(), cells, w.text.size() + 1, tree,
-                                     sizeof tree / sizeof *tree);
-    if (r % 16 != 0) return "answer " + std::to_string(r % 16);
-    if (static_cast<int>(r / 16 % 2) != w.flag) return "wrong flag";
+    uint32_t r = dimmhalt_first_tree(bytes_of(w.pattern), w.pattern.size(), bytes_of(w.text), w.text.size(), cells, DIMMHALT_CELLS(w.text.size()),
+                                     tree, DIMMHALT_MOST_ROOM, figures, DIMMHALT_FIRST_TREE_FIGURES);
+    if (r != DIMMHALT_ANSWERED) return "answer " + std::to_string(r);
+    if (static_cast<int>(figures[1]) != w.flag) return "wrong flag";
     return "";
-#else
-    (void)w;
-    return not_built;
-#endif
 }
 
 // Looks at the whole answer once, before anything is measured.
 string ours_checked(const Work &w) {
-#ifdef HAVE_TREE
     for (uint64_t &c : cells) c = 77;
     string wrong = ours(w);
     if (wrong != "") return wrong;
-    uint64_t length = dimmhalt_first_tree(reinterpret_cast<const uint8_t *>(w.pattern.data()), w.pattern.size(),
-                                          reinterpret_cast<const uint8_t *>(w.text.data()), w.text.size(), cells, w.text.size() + 1, tree,
-                                          sizeof tree / sizeof *tree) /
-                      32;
-    for (size_t i = 0; i < text_limit + 1; i++)
-        if (cells[i] != (i <= w.text.size() ? 0u : 77u)) return "wrong cells";
+    for (size_t i = 0; i < DIMMHALT_MOST_CELLS; i++)
+        if (cells[i] != (i < DIMMHALT_CELLS(w.text.size()) ? 0u : 77u)) return "wrong cells";
     string read;
     vector<int> opened;
-    for (uint64_t i = 0; i < length; i++) {
+    for (uint64_t i = 0; i < figures[0]; i++) {
         int t = tree[i];
-        if (t >= 256) {
-            read += static_cast<char>(t - 256);
-        } else if (t < 128) {
+        if (t >= DIMMHALT_BYTE(0)) {
+            read += static_cast<char>(t - DIMMHALT_BYTE(0));
+        } else if (t < DIMMHALT_CLOSES(0)) {
             opened.push_back(t);
         } else {
-            if (opened.empty() || opened.back() != t - 128) return "wrong tree";
+            if (opened.empty() || DIMMHALT_CLOSES(opened.back()) != t) return "wrong tree";
             opened.pop_back();
         }
     }
     if (!opened.empty() || read != w.text) return "wrong tree";
     return "";
-#else
-    return ours(w);
-#endif
 }
 
 string our_verdict(const Work &w) {
-#ifdef HAVE_VERDICT
-    uint32_t r = dimmhalt_verdict(reinterpret_cast<const uint8_t *>(w.pattern.data()), w.pattern.size(),
-                                  reinterpret_cast<const uint8_t *>(w.text.data()), w.text.size());
-    return r == (w.flag ? 11u : 0u) ? "" : "answer " + std::to_string(r);
-#else
-    (void)w;
-    return not_built;
-#endif
+    uint32_t r = dimmhalt_verdict(bytes_of(w.pattern), w.pattern.size(), bytes_of(w.text), w.text.size());
+    return r == (w.flag ? DIMMHALT_SEVERAL_TREES : DIMMHALT_ONE_TREE) ? "" : "answer " + std::to_string(r);
 }
+
+#else
+
+string ours(const Work &) { return not_built; }
+string ours_checked(const Work &) { return not_built; }
+string our_verdict(const Work &) { return not_built; }
+
+#endif
 
 RE2::Options byte_options() {
     RE2::Options o;

@@ -137,7 +137,7 @@ CALLS = [
 
 def text(r):
     print("Dimmhalt beside RE2, PCRE2 with JIT and TRE\n")
-    for k in ("date", "machine", "peers", "ours", "way", "note"):
+    for k in ("date", "machine", "peers", "ours", "way"):
         if k in r.run:
             print(f"{k}: {r.run[k]}")
     print()
@@ -158,7 +158,7 @@ def text(r):
 def markdown(r):
     print("# Performance\n")
     print("Measured by `bench/run`, which says with `--help` what it needs; this page is what `bench/run --markdown` prints of it.\n")
-    for k in ("date", "machine", "peers", "ours", "way", "note"):
+    for k in ("date", "machine", "peers", "ours", "way"):
         if k in r.run:
             print(f"- {k}: {r.run[k]}")
     print()

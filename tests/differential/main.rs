@@ -1,16 +1,18 @@
 //! Random cases through the programs under test, each held to the reference.
 //!
-//!     differential --desk WORD.. --host WORD.. [--seed N] [--cases N] [--desk-every N] [--only N]
-//!     differential --lent WORD.. [--seed N] [--cases N] [--only N]
+//!     differential --host WORD.. [--seed N] [--cases N] [--only N]                  each case through all calls
+//!     differential --desk WORD.. --host WORD.. [--seed N] [--cases N] [--only N]    each through the desk and the verdict
 //!
-//! --desk, --host and --lent take one word of the command each, and are given again for each further word. The desk is run once for a case,
-//! a host once for a batch. --desk-every N runs the desk on one case of N, where starting a program is dear. --only N shows one case of a run.
+//! --desk and --host take one word of the command each, and are given again for each further word. The host is run once for a batch, the
+//! desk once for a case. --only N shows one case of a run.
 
+mod batch;
+mod calls;
 mod chance;
+mod cover;
 mod desk;
-mod lent;
 mod make;
-mod make_lent;
+mod make_calls;
 mod options;
 mod run;
 mod totals;
@@ -23,28 +25,44 @@ use std::sync::atomic::{AtomicU64, Ordering};
 use std::sync::Mutex;
 use totals::Totals;
 
-const WORKERS: usize = 2;
-const BATCH: u64 = 200;
-
-/// What a run is of: the desk and the scheduler's call, or the calls over lent memory.
+/// What a run is of: the calls, or the desk and the verdict.
 struct Kind {
     says: &'static str,
+    /// how many cases go into a batch
+    batch: u64,
+    /// a run of so many cases must meet every answer and edge
+    covering: u64,
     one_batch: fn(&Options, Range<u64>, &Mutex<Totals>) -> Result<(), String>,
     show: fn(&Options, u64),
-    answers: fn() -> Vec<String>,
+    expect: fn(&mut Totals),
 }
 
-const DESK: Kind = Kind { says: "through the call, and through the desk", one_batch: desk::one_batch, show: desk::show, answers: desk::answers };
-const LENT: Kind = Kind { says: "through the calls over lent memory", one_batch: lent::one_batch, show: lent::show, answers: lent::answers };
+const CALLS: Kind = Kind {
+    says: "each through all calls",
+    batch: 500,
+    covering: 50_000,
+    one_batch: calls::one_batch,
+    show: calls::show,
+    expect: cover::expect,
+};
+const DESK: Kind = Kind {
+    says: "each through the desk and the verdict",
+    batch: 50,
+    covering: 500,
+    one_batch: desk::one_batch,
+    show: desk::show,
+    expect: desk::expect,
+};
 
-/// Takes batch after batch until none is left.
+/// Takes batch after batch until none is left. What is in a batch does not depend on who takes it.
 fn work(kind: &Kind, options: &Options, next: &AtomicU64, totals: &Mutex<Totals>) -> Result<(), String> {
     loop {
-        let from = next.fetch_add(BATCH, Ordering::Relaxed);
+        let from = next.fetch_add(kind.batch, Ordering::Relaxed);
         if from >= options.cases {
             return Ok(());
         }
-        (kind.one_batch)(options, from..(from + BATCH).min(options.cases), totals)?;
+        let to = (from + kind.batch).min(options.cases);
+        (kind.one_batch)(options, from..to, totals).map_err(|why| format!("cases {from} to {}: {why}", to - 1))?;
     }
 }
 
@@ -61,14 +79,16 @@ fn by_workers(count: usize, work: impl Fn(&Mutex<Totals>) -> Result<(), String> 
 
 fn all_cases(kind: &Kind, options: &Options) -> Result<Totals, String> {
     let next = AtomicU64::new(0);
-    by_workers(WORKERS, |totals| work(kind, options, &next, totals))
+    let workers = std::thread::available_parallelism().map_or(1, |count| count.get());
+    let mut totals = by_workers(workers, |totals| work(kind, options, &next, totals))?;
+    (kind.expect)(&mut totals);
+    Ok(totals)
 }
 
 fn one_case(kind: &Kind, options: &Options, number: u64) -> Result<Totals, String> {
-    let options = Options { desk_every: 1, ..options.clone() };
     by_workers(1, |totals| {
-        (kind.show)(&options, number);
-        (kind.one_batch)(&options, number..number + 1, totals)
+        (kind.show)(options, number);
+        (kind.one_batch)(options, number..number + 1, totals)
     })
 }
 
@@ -76,21 +96,19 @@ fn main() -> ExitCode {
     let options = match options::options() {
         Some(options) => options,
         None => {
-            eprintln!("usage: differential --desk WORD.. --host WORD.. [--seed N] [--cases N] [--desk-every N] [--only N]");
-            eprintln!("       differential --lent WORD.. [--seed N] [--cases N] [--only N]");
+            eprintln!("usage: differential [--desk WORD..] --host WORD.. [--seed N] [--cases N] [--only N]");
             return ExitCode::from(64);
         }
     };
-    let kind = if options.lent.is_empty() { DESK } else { LENT };
-    println!("differential: seed {}, {} cases {}", options.seed, options.cases, kind.says);
-    let run = match options.only {
-        Some(number) => one_case(&kind, &options, number),
-        None => all_cases(&kind, &options),
+    let kind = if options.desk.is_empty() { CALLS } else { DESK };
+    println!("differential: seed {}, {} cases, {}", options.seed, options.cases, kind.says);
+    let (run, cases) = match options.only {
+        Some(number) => (one_case(&kind, &options, number), 1),
+        None => (all_cases(&kind, &options), options.cases),
     };
     match run {
         Ok(mut totals) => {
-            let cases = if options.only.is_none() { Some(options.cases) } else { None };
-            totals.report(cases, &(kind.answers)());
+            totals.report(cases, kind.covering);
             if totals.failed == 0 && totals.passed > 0 { ExitCode::SUCCESS } else { ExitCode::FAILURE }
         }
         Err(why) => {

@@ -1,4 +1,4 @@
-//! Makes cases: a pattern, a text, and what the desk is given.
+//! Makes cases for the desk: a pattern, a text, and what the desk is given.
 
 use crate::chance::Chance;
 use reference::answers::parts_of_input;
@@ -287,14 +287,13 @@ fn long_row(chance: &mut Chance) -> (Vec<u8>, Vec<u8>) {
     (pattern, [repeated(b"a", length / tokens), repeated(b"b", behind)].concat())
 }
 
+/// Patterns at a limit, some with a text that is beyond its own.
 fn at_a_limit(chance: &mut Chance) -> (Vec<u8>, Vec<u8>) {
-    let (pattern, text) = match chance.below(13) {
+    let (pattern, text) = match chance.below(9) {
         0 | 1 => long_pattern(chance),
         2 | 3 => many_positions(chance),
         4..=6 => many_marks(chance),
-        7 | 8 => deep_groups(chance),
-        9 | 10 => long_text(chance),
-        _ => long_row(chance),
+        _ => deep_groups(chance),
     };
     if chance.percent(5) {
         return (pattern, repeated(b"a", 4097));
@@ -320,27 +319,35 @@ fn raw_input(chance: &mut Chance) -> Vec<u8> {
     }
 }
 
-fn joined(pattern: &[u8], text: &[u8]) -> Vec<u8> {
-    [pattern, b"\n", text].concat()
+/// Neither of the pattern nor of the text much is asked.
+fn ordinary(chance: &mut Chance) -> (Vec<u8>, Vec<u8>) {
+    let letters = letters(chance);
+    let whole = any_pattern(chance, &letters);
+    let pattern = if chance.percent(17) { damaged(chance, &whole, &letters) } else { whole };
+    let text = any_text(chance, &pattern, &letters);
+    (pattern, text)
 }
 
-/// One case. Where the pattern holds byte 10 the desk sees another pattern than the scheduler's call does: both count.
-pub fn case(chance: &mut Chance) -> Case {
+/// How many of a hundred cases have a pattern at a limit, and how many a long text, which costs the reference most.
+pub struct Shares {
+    pub limits: usize,
+    pub long: usize,
+}
+
+/// One case. Where the pattern holds byte 10 the desk sees another pattern than the calls do: both count.
+pub fn case(chance: &mut Chance, shares: Shares) -> Case {
     let kind = chance.below(100);
-    if kind < 4 {
-        let input = raw_input(chance);
-        let (pattern, text) = parts_of_input(&input);
-        return Case { pattern: pattern.to_vec(), text: text.to_vec(), input };
-    }
-    let (pattern, text) = if kind < 16 {
-        at_a_limit(chance)
-    } else {
-        let letters = letters(chance);
-        let whole = any_pattern(chance, &letters);
-        let pattern = if kind < 30 { damaged(chance, &whole, &letters) } else { whole };
-        let text = any_text(chance, &pattern, &letters);
-        (pattern, text)
+    let (pattern, text) = match kind {
+        _ if kind < shares.limits => at_a_limit(chance),
+        _ if kind < shares.limits + shares.long && chance.percent(50) => long_text(chance),
+        _ if kind < shares.limits + shares.long => long_row(chance),
+        96.. => {
+            let input = raw_input(chance);
+            let (pattern, text) = parts_of_input(&input);
+            return Case { pattern: pattern.to_vec(), text: text.to_vec(), input };
+        }
+        _ => ordinary(chance),
     };
-    let input = joined(&pattern, &text);
+    let input = [&pattern[..], b"\n", &text].concat();
     Case { pattern, text, input }
 }

@@ -2,13 +2,11 @@
 
 #[derive(Clone)]
 pub struct Options {
-    /// the words of the commands under test: the desk and the scheduler's host, or the host of the calls over lent memory
+    /// the words of the commands under test: the desk, if it is to be run, and the host
     pub desk: Vec<String>,
     pub host: Vec<String>,
-    pub lent: Vec<String>,
     pub seed: u64,
     pub cases: u64,
-    pub desk_every: u64,
     pub only: Option<u64>,
 }
 
@@ -18,21 +16,18 @@ fn seed_of_now() -> u64 {
 
 /// Nothing if they are not in order.
 pub fn options() -> Option<Options> {
-    let mut options = Options { desk: Vec::new(), host: Vec::new(), lent: Vec::new(), seed: seed_of_now(), cases: 20_000, desk_every: 1, only: None };
+    let mut options = Options { desk: Vec::new(), host: Vec::new(), seed: seed_of_now(), cases: 20_000, only: None };
     let mut words = std::env::args().skip(1);
     while let Some(word) = words.next() {
         let value = words.next()?;
         match word.as_str() {
             "--desk" => options.desk.push(value),
             "--host" => options.host.push(value),
-            "--lent" => options.lent.push(value),
             "--seed" => options.seed = value.parse().ok()?,
             "--cases" => options.cases = value.parse().ok()?,
-            "--desk-every" => options.desk_every = value.parse().ok().filter(|&every| every > 0)?,
             "--only" => options.only = Some(value.parse().ok()?),
             _ => return None,
         }
     }
-    let is_lent = !options.lent.is_empty();
-    if options.desk.is_empty() == is_lent && options.host.is_empty() == is_lent { Some(options) } else { None }
+    if options.host.is_empty() { None } else { Some(options) }
 }

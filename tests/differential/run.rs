@@ -1,5 +1,6 @@
 //! Runs the programs under test.
 
+use crate::batch::{self, Asked, Came};
 use std::io::{ErrorKind, Write};
 use std::process::{Command, Stdio};
 
@@ -31,13 +32,15 @@ pub fn output_of(command: &[String], input: &[u8]) -> Result<Vec<u8>, String> {
     Ok(output.stdout)
 }
 
-/// The numbers that the host gives for a batch, one a line.
-pub fn numbers_of(command: &[String], batch: &[u8], count: usize) -> Result<Vec<u32>, String> {
-    let output = output_of(command, batch)?;
-    let lines = String::from_utf8(output).map_err(|_| "the host writes other bytes than digits".to_string())?;
-    let numbers: Vec<u32> = lines.lines().map(|line| line.parse().map_err(|_| format!("the host wrote '{line}'"))).collect::<Result<_, _>>()?;
-    if numbers.len() != count {
-        return Err(format!("the host gave {} numbers for {count} cases", numbers.len()));
+/// What the host makes of some cases, in one process.
+pub fn host_on(command: &[String], asked: &[Asked]) -> Result<Vec<Came>, String> {
+    let mut input = Vec::new();
+    for asked in asked {
+        batch::put(&mut input, asked);
     }
-    Ok(numbers)
+    let output = output_of(command, &input)?;
+    let mut rest = &output[..];
+    let came: Option<Vec<Came>> = asked.iter().map(|asked| batch::take(&mut rest, asked.lent)).collect();
+    let came = came.ok_or("the host's output breaks off")?;
+    if rest.is_empty() { Ok(came) } else { Err("the host writes more than it was asked for".to_string()) }
 }

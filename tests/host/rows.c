@@ -38,6 +38,16 @@ struct row string(const char *bytes)
     return bytes_of(bytes, strlen(bytes));
 }
 
+struct row repeated(size_t times, const void *piece, size_t length)
+{
+    struct row row = new_row(times * length);
+    size_t turn;
+    for (turn = 0; turn < times; turn++) {
+        memcpy(row.bytes + turn * length, piece, length);
+    }
+    return row;
+}
+
 static unsigned char *put(unsigned char *at, size_t times, const char *piece)
 {
     size_t turn;
@@ -65,6 +75,12 @@ void free_row(struct row row)
     free(row.bytes);
 }
 
+void replace_row(struct row *row, struct row other)
+{
+    free_row(*row);
+    *row = other;
+}
+
 int read_number(size_t bytes, size_t *number)
 {
     unsigned char got[8];
@@ -82,32 +98,18 @@ int read_number(size_t bytes, size_t *number)
     return 1;
 }
 
-static struct row read_pieces(size_t count, size_t size)
-{
-    struct row row = new_row(count * size);
-    if (fread(row.bytes, 1, row.length, stdin) != row.length) {
-        give_up("the batch breaks off in a row");
-    }
-    return row;
-}
-
 struct row read_row(size_t size)
 {
+    struct row row;
     size_t count;
     if (!read_number(4, &count)) {
         give_up("the batch breaks off before a row");
     }
-    return read_pieces(count, size);
-}
-
-int read_first_row(struct row *row)
-{
-    size_t count;
-    if (!read_number(4, &count)) {
-        return 0;
+    row = new_row(count * size);
+    if (fread(row.bytes, 1, row.length, stdin) != row.length) {
+        give_up("the batch breaks off in a row");
     }
-    *row = read_pieces(count, 1);
-    return 1;
+    return row;
 }
 
 void end_batch(void)

@@ -1,7 +1,9 @@
-//! The numbers answered, in their order; what the desk prints; the scheduler's number.
+//! The numbers answered, in their order: of the first tree, of the reading of a pattern, of the verdict; and what the desk prints.
 
+use crate::keepers::{Every, FirstTwo, Row};
 use crate::pattern;
-use crate::trees::{Every, FirstTwo, Row, Stretches, TooMuch, Trees};
+use crate::stretches::{Stretches, TooMuch};
+use crate::trees::Trees;
 
 pub const PATTERN_LIMIT: usize = 512;
 pub const TEXT_LIMIT: usize = 4096;
@@ -23,7 +25,7 @@ pub struct Effort {
 }
 
 /// Number, value and flag, the row for 0, and whether every tree was written out to find them.
-#[derive(Debug, PartialEq, Eq)]
+#[derive(Clone, Debug, PartialEq, Eq)]
 pub struct Answer {
     pub number: u32,
     pub value: usize,
@@ -83,16 +85,13 @@ fn every_row(stretches: &mut Stretches, tokens: usize) -> Option<Vec<Row>> {
     Some(rows.iter().cloned().collect())
 }
 
-/// The answer of the call that writes the first tree, with so many cells and so much room lent.
-pub fn answer(pattern: &[u8], text: &[u8], cells: usize, room: usize, effort: Effort) -> Result<Answer, TooMuch> {
+/// The answer of the first tree where as much is lent as can be asked for.
+pub fn whole(pattern: &[u8], text: &[u8], effort: Effort) -> Result<Answer, TooMuch> {
     if pattern.len() > PATTERN_LIMIT {
         return Ok(refused(1, 0));
     }
     if text.len() > TEXT_LIMIT {
         return Ok(refused(2, 0));
-    }
-    if cells < text.len() + 1 {
-        return Ok(refused(3, 0));
     }
     let expression = match accepted(pattern) {
         Ok(expression) => expression,
@@ -100,17 +99,42 @@ pub fn answer(pattern: &[u8], text: &[u8], cells: usize, room: usize, effort: Ef
     };
     Ok(match judged(&expression, text, effort)? {
         Judged::None { place } => refused(8, place),
-        Judged::Some { first, .. } if first.len() > room => refused(9, first.len()),
         Judged::Some { first, other, every_tree_written } => {
             Answer { number: 0, value: first.len(), flag: u32::from(other), row: first, every_tree_written }
         }
     })
 }
 
-/// The scheduler's number: room for every tree, and the flag as 11.
-pub fn verdict(pattern: &[u8], text: &[u8], effort: Effort) -> Result<u32, TooMuch> {
-    let answer = answer(pattern, text, usize::MAX, usize::MAX, effort)?;
-    Ok(if answer.flag == 1 { 11 } else { answer.number })
+/// The answer of the first tree with so many cells and so much room lent for a text of `length` bytes, where `whole` is that without want:
+/// 3 comes before all that is said of the pattern, 9 in place of a tree.
+pub fn with_lent(whole: &Answer, length: usize, cells: usize, room: usize) -> Answer {
+    match whole.number {
+        1 | 2 => whole.clone(),
+        _ if cells < length + 1 => refused(3, 0),
+        0 if whole.row.len() > room => refused(9, whole.row.len()),
+        _ => whole.clone(),
+    }
+}
+
+/// The answer of the first tree with so many cells and so much room lent.
+pub fn answer(pattern: &[u8], text: &[u8], cells: usize, room: usize, effort: Effort) -> Result<Answer, TooMuch> {
+    Ok(with_lent(&whole(pattern, text, effort)?, text.len(), cells, room))
+}
+
+/// The verdict, where `whole` is the answer of the first tree without want: the flag is 11.
+pub fn verdict(whole: &Answer) -> u32 {
+    if whole.flag == 1 { 11 } else { whole.number }
+}
+
+/// Number and value of the reading of a pattern, and how many positions and marks it has.
+pub fn read(pattern: &[u8]) -> (u32, [usize; 3]) {
+    if pattern.len() > PATTERN_LIMIT {
+        return (1, [0; 3]);
+    }
+    match accepted(pattern) {
+        Ok(expression) => (0, [0, expression.positions, expression.marks]),
+        Err(refusal) => (refusal.number, [refusal.value, 0, 0]),
+    }
 }
 
 /// The pattern and the text in what the desk takes of its input.

@@ -1,12 +1,10 @@
-//! The reference behind the scheduler's call and the calls over lent memory, so that the C hosts can be tried without the product.
+//! The reference behind the calls of include/dimmhalt.h, so that the C host can be tried without the product.
 
-use reference::{answers, lent};
+use reference::answers::{self, Answer};
+use reference::lent::{first_tree_left, read_left, turns_left, verdict_left, Left, Lent};
 use std::slice::{from_raw_parts, from_raw_parts_mut};
 
 const EFFORT: answers::Effort = answers::Effort { steps: 20_000_000, tokens: 0 };
-
-/// As `answers::TOO_MUCH`, packed.
-const TOO_MUCH_PACKED: u64 = 15;
 
 /// Stack for each byte of pattern and text. A memory checker is slow where a stack is large.
 const STACK_FOR_BYTE: usize = 1 << 14;
@@ -20,18 +18,33 @@ fn on_large_stack<T: Send>(bytes: usize, work: impl FnOnce() -> T + Send) -> T {
     })
 }
 
-/// The call of include/dimmhalt.h.
-///
+/// The answer of the first tree without want, or nothing where it would be too much work.
+fn whole(pattern: &[u8], text: &[u8]) -> Option<Answer> {
+    on_large_stack(pattern.len() + text.len(), || answers::whole(pattern, text, EFFORT).ok())
+}
+
+/// # Safety
+/// As `from_raw_parts_mut`.
+unsafe fn figures<'a>(out: *mut u64, out_length: usize) -> (&'a mut [u64], Lent) {
+    let out = from_raw_parts_mut(out, out_length);
+    let before = Lent { out: out.to_vec(), ..Lent::default() };
+    (out, before)
+}
+
+/// Writes the figures and answers the number.
+fn told(left: &Left, out: &mut [u64]) -> u32 {
+    out.copy_from_slice(&left.lent.out);
+    left.number
+}
+
 /// # Safety
 /// The pointers are not null and valid for their lengths.
 #[no_mangle]
 pub unsafe extern "C" fn dimmhalt_verdict(pattern: *const u8, pattern_length: usize, text: *const u8, text_length: usize) -> u32 {
     let (pattern, text) = (from_raw_parts(pattern, pattern_length), from_raw_parts(text, text_length));
-    on_large_stack(pattern_length + text_length, || answers::verdict(pattern, text, EFFORT).unwrap_or(answers::TOO_MUCH))
+    whole(pattern, text).map_or(answers::TOO_MUCH, |whole| verdict_left(&whole).number)
 }
 
-/// The first tree of tests/host/lent.h.
-///
 /// # Safety
 /// The pointers are not null, aligned and valid for their lengths, and nothing else reads or writes what is lent.
 #[no_mangle]
@@ -44,25 +57,32 @@ pub unsafe extern "C" fn dimmhalt_first_tree(
     cells_length: usize,
     tree: *mut u16,
     tree_length: usize,
-) -> u64 {
+    out: *mut u64,
+    out_length: usize,
+) -> u32 {
     let (pattern, text) = (from_raw_parts(pattern, pattern_length), from_raw_parts(text, text_length));
     let (cells, tree) = (from_raw_parts_mut(cells, cells_length), from_raw_parts_mut(tree, tree_length));
-    match on_large_stack(pattern_length + text_length, || lent::first_tree(pattern, text, cells, tree, EFFORT)) {
-        Ok(left) => {
-            cells.copy_from_slice(&left.cells);
-            tree.copy_from_slice(&left.room);
-            lent::packed(left.number, left.value, left.flag)
-        }
-        Err(_) => TOO_MUCH_PACKED,
-    }
+    let (out, before) = figures(out, out_length);
+    let Some(whole) = whole(pattern, text) else { return answers::TOO_MUCH };
+    let left = first_tree_left(&whole, text_length, &Lent { cells: cells.to_vec(), room: tree.to_vec(), ..before });
+    cells.copy_from_slice(&left.lent.cells);
+    tree.copy_from_slice(&left.lent.room);
+    told(&left, out)
 }
 
-/// The turn count of tests/host/lent.h.
-///
 /// # Safety
-/// The pointer is not null, aligned and valid for the length.
+/// As for the first tree.
 #[no_mangle]
-pub unsafe extern "C" fn dimmhalt_turns(row: *const u16, row_length: usize, mark: usize) -> u64 {
-    let (number, count) = lent::turns(from_raw_parts(row, row_length), mark as u64);
-    lent::packed(number, count, 0)
+pub unsafe extern "C" fn dimmhalt_read(pattern: *const u8, pattern_length: usize, out: *mut u64, out_length: usize) -> u32 {
+    let pattern = from_raw_parts(pattern, pattern_length);
+    let (out, before) = figures(out, out_length);
+    told(&on_large_stack(pattern_length.min(answers::PATTERN_LIMIT), || read_left(pattern, &before)), out)
+}
+
+/// # Safety
+/// As for the first tree.
+#[no_mangle]
+pub unsafe extern "C" fn dimmhalt_turns(row: *const u16, row_length: usize, mark: u64, out: *mut u64, out_length: usize) -> u32 {
+    let (out, before) = figures(out, out_length);
+    told(&turns_left(from_raw_parts(row, row_length), mark, &before), out)
 }

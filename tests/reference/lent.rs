@@ -1,35 +1,53 @@
-//! What the calls over lent memory answer and leave: the cells and the tree room as the table of answers has them, and the turn count.
+//! What the calls answer and leave: the cells, the tree room and `out`, as the table of answers has them.
 
-use crate::answers::{answer, Effort, MARK_LIMIT};
-use crate::trees::TooMuch;
+use crate::answers::{read, verdict, with_lent, Answer, MARK_LIMIT};
 
-/// Number, value and flag of the first tree, and what the lent memory holds after the call.
+/// What is lent to a call, before it or after it. What the call does not take is empty.
+#[derive(Clone, Debug, Default, PartialEq, Eq)]
+pub struct Lent {
+    pub cells: Vec<u64>,
+    pub room: Vec<u16>,
+    pub out: Vec<u64>,
+}
+
+/// The number of a call, and what is lent as it is left.
 #[derive(Clone, Debug, PartialEq, Eq)]
 pub struct Left {
     pub number: u32,
-    pub value: usize,
-    pub flag: u32,
-    pub cells: Vec<u64>,
-    pub room: Vec<u16>,
+    pub lent: Lent,
 }
 
-/// Number, value and flag as the call hands them over.
-pub fn packed(number: u32, value: usize, flag: u32) -> u64 {
-    u64::from(number) + 16 * u64::from(flag) + 32 * value as u64
+/// `front`, and the rest of `before` unchanged.
+fn written<T: Clone>(front: &[T], before: &[T]) -> Vec<T> {
+    [front, &before[front.len()..]].concat()
 }
 
-/// The first tree, with lent cells and lent room. 8, 9 and 0 leave the cells that were asked for zero; 0 leaves the row at the front of the
-/// room; all else stays.
-pub fn first_tree(pattern: &[u8], text: &[u8], cells: &[u64], room: &[u16], effort: Effort) -> Result<Left, TooMuch> {
-    let answer = answer(pattern, text, cells.len(), room.len(), effort)?;
-    let asked_for = if matches!(answer.number, 0 | 8 | 9) { text.len() + 1 } else { 0 };
-    Ok(Left {
-        number: answer.number,
-        value: answer.value,
-        flag: answer.flag,
-        cells: [&vec![0; asked_for], &cells[asked_for..]].concat(),
-        room: [&answer.row, &room[answer.row.len()..]].concat(),
-    })
+/// The figures at the front of `out`, as many as it is long.
+fn figured(figures: &[usize], out: &[u64]) -> Vec<u64> {
+    let fitting: Vec<u64> = figures.iter().take(out.len()).map(|&figure| figure as u64).collect();
+    written(&fitting, out)
+}
+
+/// The verdict takes nothing that is lent. `whole` is the answer of the first tree without want.
+pub fn verdict_left(whole: &Answer) -> Left {
+    Left { number: verdict(whole), lent: Lent::default() }
+}
+
+/// The first tree of a text of `length` bytes. 8, 9 and 0 leave the cells that were asked for zero; 0 leaves the row at the front of
+/// the room.
+pub fn first_tree_left(whole: &Answer, length: usize, lent: &Lent) -> Left {
+    let answer = with_lent(whole, length, lent.cells.len(), lent.room.len());
+    let asked_for = if matches!(answer.number, 0 | 8 | 9) { length + 1 } else { 0 };
+    let cells = written(&vec![0; asked_for], &lent.cells);
+    let room = written(&answer.row, &lent.room);
+    let out = figured(&[answer.value, answer.flag as usize], &lent.out);
+    Left { number: answer.number, lent: Lent { cells, room, out } }
+}
+
+/// The reading of a pattern.
+pub fn read_left(pattern: &[u8], lent: &Lent) -> Left {
+    let (number, figures) = read(pattern);
+    Left { number, lent: Lent { out: figured(&figures, &lent.out), ..Lent::default() } }
 }
 
 /// Number and count of the turn count.
@@ -38,4 +56,10 @@ pub fn turns(row: &[u16], mark: u64) -> (u32, usize) {
         return (10, 0);
     }
     (0, row.iter().filter(|&&token| u64::from(token) == mark).count())
+}
+
+/// The turn count.
+pub fn turns_left(row: &[u16], mark: u64, lent: &Lent) -> Left {
+    let (number, count) = turns(row, mark);
+    Left { number, lent: Lent { out: figured(&[count], &lent.out), ..Lent::default() } }
 }

@@ -1,10 +1,9 @@
 //! The reference as a program.
 //!
-//!     reference --self-test            holds it to the rules' examples
-//!     reference --desk     < input     prints what the desk prints
-//!     reference --verdicts < batch     prints the scheduler's number of each case of a batch, one a line
+//!     reference --self-test        holds it to the rules' examples
+//!     reference --desk < input     prints what the desk prints
 
-use reference::{answers, batch, self_test, STACK};
+use reference::{answers, self_test, STACK};
 use std::io::{Read, Write};
 use std::process::ExitCode;
 
@@ -19,16 +18,6 @@ fn input() -> std::io::Result<Vec<u8>> {
 fn desk() -> Result<String, String> {
     let input = input().map_err(|error| error.to_string())?;
     Ok(answers::desk_answer(&input, EFFORT).map_or(format!("ANSWER {} 0 0\n", answers::TOO_MUCH), |answer| answers::lines(&answer)))
-}
-
-fn verdicts() -> Result<String, String> {
-    let input = input().map_err(|error| error.to_string())?;
-    let mut lines = String::new();
-    for (pattern, text) in batch::cases(&input).ok_or("the batch breaks off")? {
-        let number = answers::verdict(pattern, text, EFFORT).map_err(|_| "too much work".to_string())?;
-        lines.push_str(&format!("{number}\n"));
-    }
-    Ok(lines)
 }
 
 fn print(lines: Result<String, String>) -> ExitCode {
@@ -48,9 +37,8 @@ fn run() -> ExitCode {
         ["--self-test"] if self_test::run() => ExitCode::SUCCESS,
         ["--self-test"] => ExitCode::FAILURE,
         ["--desk"] => print(desk()),
-        ["--verdicts"] => print(verdicts()),
         _ => {
-            eprintln!("usage: reference --self-test | --desk | --verdicts");
+            eprintln!("usage: reference --self-test | --desk");
             ExitCode::from(64)
         }
     }

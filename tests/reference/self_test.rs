@@ -1,7 +1,7 @@
 //! The reference held to the rules' own examples, and its two shortcuts (completions of a beginning, how far a text gets) to plain search.
 
-use crate::answers::{answer, desk_answer, lines, verdict, Effort};
-use crate::lent::{first_tree, packed, turns, Left};
+use crate::answers::{answer, desk_answer, lines, read, verdict, whole, Effort};
+use crate::lent::{first_tree_left, read_left, turns, turns_left, verdict_left, Left, Lent};
 use crate::pattern;
 
 const EFFORT: Effort = Effort { steps: 50_000_000, tokens: 2_000_000 };
@@ -69,7 +69,7 @@ fn readings(checks: &mut Checks) {
         let got = answer(pattern.as_bytes(), text.as_bytes(), usize::MAX, usize::MAX, EFFORT).expect("an example costs little");
         checks.same(pattern, (got.number, row_in_words(&got.row), got.flag, got.every_tree_written), (0, row.to_string(), flag, true));
         let wanted = if flag == 1 { 11 } else { 0 };
-        checks.same(pattern, verdict(pattern.as_bytes(), text.as_bytes(), EFFORT).ok(), Some(wanted));
+        checks.same(pattern, verdict(&got), wanted);
     }
 }
 
@@ -123,34 +123,85 @@ fn desk(checks: &mut Checks) {
     checks.same("no byte 10", prints(b"a*"), Some("ANSWER 0 0 0\nTREE\n".to_string()));
     checks.same("no input", prints(b""), Some("ANSWER 4 0 0\n".to_string()));
     checks.same("a text with byte 10", prints(b"..\n\n\xff"), Some("ANSWER 0 2 0\nTREE b10 b255\n".to_string()));
-    let filled = |behind: &str| desk_answer(format!("a*{behind}\n{}{behind}", "a".repeat(2730)).as_bytes(), EFFORT).map(|got| (got.number, got.value)).ok();
+    let filled = |behind: &str| {
+        let input = format!("a*{behind}\n{}{behind}", "a".repeat(2730));
+        desk_answer(input.as_bytes(), EFFORT).map(|got| (got.number, got.value)).ok()
+    };
     checks.same("8,192 tokens", filled("bb"), Some((0, 8192)));
     checks.same("8,193 tokens", filled("bbb"), Some((9, 8193)));
     let cut = [b"a\n".to_vec(), vec![b'a'; 9000]].concat();
     checks.same("only 8,192 bytes are taken", desk_answer(&cut, EFFORT).ok().map(|got| got.number), Some(2));
 }
 
-/// What is left of five cells that hold 7 and eight tokens that hold 9, by each line of the table of answers.
+/// What is left of five cells that hold 7, eight tokens that hold 9 and three figures that hold 5, by each line of the table of answers.
 fn lent(checks: &mut Checks) {
-    let left = |pattern: &[u8], text: &[u8], cells: usize, room: usize| first_tree(pattern, text, &[7; 5][..cells], &[9; 8][..room], EFFORT).ok();
-    let wanted = |number, value, flag, cells: &[u64], room: &[u16]| Some(Left { number, value, flag, cells: cells.to_vec(), room: room.to_vec() });
+    let left = |pattern: &[u8], text: &[u8], cells: usize, room: usize| {
+        let lent = Lent { cells: vec![7; cells], room: vec![9; room], out: vec![5; 3] };
+        whole(pattern, text, EFFORT).ok().map(|whole| first_tree_left(&whole, text.len(), &lent))
+    };
+    let wanted = |number, value, flag, cells: &[u64], room: &[u16]| {
+        Some(Left { number, lent: Lent { cells: cells.to_vec(), room: room.to_vec(), out: vec![value, flag, 5] } })
+    };
     let row = [1, 353, 129, 1, 353, 129];
     let (cells, room) = (&[7; 5][..], &[9; 8][..]);
     checks.same("lent: a long pattern", left(&[b'a'; 513], b"aa", 5, 8), wanted(1, 0, 0, cells, room));
     checks.same("lent: a long text", left(b"a+", &[b'a'; 4097], 5, 8), wanted(2, 0, 0, cells, room));
     checks.same("lent: two cells", left(b"a+", b"aa", 2, 8), wanted(3, 0, 0, &[7, 7], room));
+    checks.same("lent: two cells, and not a pattern", left(b"a**", b"aa", 2, 8), wanted(3, 0, 0, &[7, 7], room));
     checks.same("lent: not a pattern", left(b"a**", b"aa", 3, 8), wanted(4, 2, 0, &[7, 7, 7], room));
     checks.same("lent: 65 groups", left(&wrapped(65, "(", "a", ")"), b"aa", 5, 8), wanted(5, 0, 0, cells, room));
     checks.same("lent: 65 positions", left(&[b'a'; 65], b"aa", 5, 8), wanted(6, 0, 0, cells, room));
     checks.same("lent: 65 marks", left("()+".repeat(65).as_bytes(), b"aa", 5, 8), wanted(7, 0, 0, cells, room));
     checks.same("lent: no tree", left(b"a.c", b"ax", 5, 8), wanted(8, 2, 0, &[0, 0, 0, 7, 7], room));
+    checks.same("lent: no tree, and no room", left(b"a.c", b"ax", 3, 0), wanted(8, 2, 0, &[0; 3], &[]));
     checks.same("lent: room 5", left(b"a+", b"aa", 5, 5), wanted(9, 6, 0, &[0, 0, 0, 7, 7], &[9; 5]));
     checks.same("lent: room 6", left(b"a+", b"aa", 3, 6), wanted(0, 6, 0, &[0, 0, 0], &row));
     checks.same("lent: room 8", left(b"a+", b"aa", 4, 8), wanted(0, 6, 0, &[0, 0, 0, 7], &[&row[..], &[9, 9]].concat()));
     checks.same("lent: another tree", left(b"a|a", b"a", 2, 3), wanted(0, 3, 1, &[0, 0], &[1, 353, 129]));
-    checks.same("lent: packed", packed(0, 3, 1), 112);
-    for (mark, number, count) in [(1, 0, 2), (2, 0, 0), (64, 0, 0), (0, 10, 0), (65, 10, 0), (129, 10, 0), (353, 10, 0), (65537, 10, 0), (u64::MAX, 10, 0)] {
-        checks.same(&format!("turns of mark {mark}"), turns(&row, mark), (number, count));
+}
+
+/// As many figures are written as `out` is long, and the rest of it is unchanged.
+fn figures(checks: &mut Checks) {
+    let lent = |length: usize| Lent { cells: vec![7; 2], room: vec![9; 3], out: vec![5; length] };
+    let two_trees = whole(b"a|a", b"a", EFFORT).expect("an example costs little");
+    for (length, wanted) in [(0, vec![]), (1, vec![3]), (2, vec![3, 1]), (3, vec![3, 1, 5]), (5, vec![3, 1, 5, 5, 5])] {
+        checks.same("figures of the first tree", first_tree_left(&two_trees, 1, &lent(length)).lent.out, wanted);
+    }
+    for (length, wanted) in [(0, vec![]), (1, vec![0]), (2, vec![0, 4]), (3, vec![0, 4, 3]), (5, vec![0, 4, 3, 5, 5])] {
+        let left = read_left(b"(a|ab)b?", &lent(length));
+        checks.same("figures of a pattern", left, Left { number: 0, lent: Lent { out: wanted, ..Lent::default() } });
+    }
+    for (length, wanted) in [(0, vec![]), (1, vec![2]), (3, vec![2, 5, 5])] {
+        let left = turns_left(&[1, 129, 1, 129], 1, &lent(length));
+        checks.same("figures of the turn count", left, Left { number: 0, lent: Lent { out: wanted, ..Lent::default() } });
+    }
+    checks.same("a verdict has no figures", verdict_left(&two_trees), Left { number: 11, lent: Lent::default() });
+}
+
+/// Positions and marks of patterns, and what is said of those that are refused.
+fn patterns(checks: &mut Checks) {
+    let few = [("()", 0, 0), ("a*", 1, 1), ("(a*)*", 1, 2), ("a|a", 2, 2), ("(a|())+", 1, 3), ("(a|ab)b?", 4, 3), ("a.[b-d]\\*", 4, 0)];
+    for (pattern, positions, marks) in few {
+        checks.same(pattern, read(pattern.as_bytes()), (0, [0, positions, marks]));
+    }
+    for (pattern, place) in [("", 0), ("a**", 2), ("(a", 2), ("[z-a]", 3)] {
+        checks.same(pattern, read(pattern.as_bytes()), (4, [place, 0, 0]));
+    }
+    checks.same("a pattern of 513 bytes, which is none", read("(".repeat(513).as_bytes()), (1, [0; 3]));
+    checks.same("65 open groups", read("(".repeat(65).as_bytes()), (4, [65, 0, 0]));
+    checks.same("65 groups with positions and marks", read(&wrapped(65, "(a*", "a", ")")), (5, [0; 3]));
+    checks.same("65 positions and marks", read("a*".repeat(65).as_bytes()), (6, [0; 3]));
+    checks.same("65 marks in a pattern", read("()*".repeat(65).as_bytes()), (7, [0; 3]));
+    checks.same("64 positions and marks", read("a*".repeat(64).as_bytes()), (0, [0, 64, 64]));
+}
+
+fn counts(checks: &mut Checks) {
+    let row = [1, 353, 129, 1, 353, 129];
+    for (mark, count) in [(1, 2), (2, 0), (64, 0)] {
+        checks.same(&format!("turns of mark {mark}"), turns(&row, mark), (0, count));
+    }
+    for mark in [0, 65, 129, 353, 65537, u64::MAX] {
+        checks.same(&format!("turns of mark {mark}"), turns(&row, mark), (10, 0));
     }
     checks.same("turns in a row that is no tree", turns(&[64, 0, 192, 320, 65535, 64], 64), (0, 2));
     checks.same("turns in an empty row", turns(&[], 1), (0, 0));
@@ -206,6 +257,9 @@ pub fn run() -> bool {
     limits(&mut checks);
     desk(&mut checks);
     lent(&mut checks);
+    figures(&mut checks);
+    patterns(&mut checks);
+    counts(&mut checks);
     completions(&mut checks);
     reaches(&mut checks);
     println!("reference: {} passed, {} failed", checks.passed, checks.failed);

@@ -4,7 +4,7 @@ use mathlib.Core.List.{List, [], _∷_, _++_}
 use Prim.Native.Nat.{ℕ, zero, suc, _+_, _≤_, _<_}
 use native.Mathlib.Omega.{arith}
 use native.Mathlib.Nat.{zero-add, add-zero}
-use lib.ListN.{length, drop, getD, set, length-set}
+use lib.ListN.{length, take, drop, getD, set, length-set}
 use lib.Seq.{sets, sets-eq, getD-set-same, getD-set-other}
 
 -- two rows, one behind the other
@@ -17,6 +17,21 @@ sets-then t a (v ∷ r) s =
 -- from the front on, where there is room
 pub sets-front : (t r : List ℕ) → length r ≤ length t → sets t 0 r ≡ r ++ drop (length r) t
 sets-front t r h = sets-eq r t 0 (omega arith) ∙ ap (λ (k : ℕ). r ++ drop k t) (zero-add (length r))
+
+-- from the front on, as far as there is room
+sets-nowhere : (a : ℕ) (r : List ℕ) → sets [] a r ≡ []
+sets-nowhere a [] = refl
+sets-nowhere a (v ∷ r) = sets-nowhere (suc a) r
+
+sets-behind-one : (x : ℕ) (t : List ℕ) (a : ℕ) (r : List ℕ) → sets (x ∷ t) (suc a) r ≡ x ∷ sets t a r
+sets-behind-one x t a [] = refl
+sets-behind-one x t a (v ∷ r) = sets-behind-one x (set t a v) (suc a) r
+
+pub sets-in-front : (t r : List ℕ) → sets t 0 r ≡ take (length t) r ++ drop (length r) t
+sets-in-front [] [] = refl
+sets-in-front (x ∷ t) [] = refl
+sets-in-front [] (v ∷ r) = sets-nowhere 1 r
+sets-in-front (x ∷ t) (v ∷ r) = sets-behind-one v t 0 r ∙ ap (λ (l : List ℕ). v ∷ l) (sets-in-front t r)
 
 -- before the row, in it as far as it fits, and behind it
 pub sets-before : (t : List ℕ) (a : ℕ) (r : List ℕ) (i : ℕ) → i < a → getD (sets t a r) i 0 ≡ getD t i 0

@@ -1,11 +1,11 @@
 // The longest text, 4,096 letters, with the pattern that is deepest to read, 448 letters in 64 open groups, and with the deepest to walk: 64
 // groups, each with a mark, and 256 parts in a row. The first line of each answer is printed; tests/stack says in how much stack it runs.
 use libc::STDOUT_FILENO;
-use lines::outcome::flag;
-use lines::outcome::number;
-use lines::outcome::value;
-use tree::first_tree::Outcome;
 use tree::first_tree::first_tree;
+use tree::outcome::Outcome;
+use tree::outcome::flag;
+use tree::outcome::number;
+use tree::outcome::value;
 
 fn spaced(n: usize) {
     io::write_all(STDOUT_FILENO, b" ");
@@ -14,7 +14,7 @@ fn spaced(n: usize) {
 
 fn show(got: Outcome) {
     io::write_all(STDOUT_FILENO, b"ANSWER");
-    spaced(number(got));
+    spaced(number(got) as usize);
     spaced(value(got));
     spaced(flag(got));
     io::write_all(STDOUT_FILENO, b"\n");

@@ -1,4 +1,5 @@
 -- What follows from the definitions.
+pub mod Calls
 pub mod Examples
 pub mod Grouping
 pub mod Promises

@@ -90,7 +90,7 @@ module _ (t : ℕ) where
 pub wrote-token : (t : ℕ) (l : List ℕ) {s s′ : List ℕ} {at r : ℕ} → t < 65536 → token t ≡ l → Wrote s at l s′ r → Wrote s at (token t) s′ r × (r ≤ at + 7)
 wrote-token t l b e a = (rw e a, omega (arith, a .moved, token-length t b, ap length e))
 
-tokens-last : (row : List ℕ) (t : ℕ) → tokens (row ++ (t ∷ [])) ≡ tokens row ++ token t
+pub tokens-last : (row : List ℕ) (t : ℕ) → tokens (row ++ (t ∷ [])) ≡ tokens row ++ token t
 unfolding tokens
 tokens-last [] t = append-nil (token t)
 tokens-last (s ∷ row) t = rw (tokens-last row t) (sym (append-assoc (token s) (tokens row) (token t)))

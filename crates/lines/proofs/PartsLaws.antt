@@ -68,8 +68,11 @@ module _ (line word : List ℕ) (i : ℕ) where
   pub headed-not : i < length word → (getD line i 0 ≡ getD word i 0 → ⊥) → Headed line word → ⊥
   headed-not h n e = n (sym (getD-take (length word) line i 0 h) ∙ ap (λ (l : List ℕ). getD l i 0) e)
 
+pub headed-long : (line word : List ℕ) → Headed line word → length word ≤ length line
+headed-long line word e = omega (arith, simp length-take at (ap length e))
+
 pub headed-short : (line word : List ℕ) → length line < length word → Headed line word → ⊥
-headed-short line word h e = omega (arith, simp length-take at (ap length e))
+headed-short line word h e = omega (arith, headed-long line word e)
 
 -- what is said of a fact is one of the two
 pub said-one : (A : Type 0) (r r′ : Bool) → Said r A → Said r′ A → r ≡ r′

@@ -3,12 +3,12 @@ ghost use mathlib.Core.Path.{_≡_};
 ghost use Prim.Native.Nat.{min};
 ghost use Rattle.meaning.specs.Desk.{pattern-in, text-in};
 ghost use Rattle.lines.specs.Desked.{Answer, Desked};
-use crate::outcome::flag;
-use crate::outcome::number;
-use crate::outcome::value;
 use crate::parts::split;
 use crate::print::answer;
 use tree::first_tree::first_tree;
+use tree::outcome::flag;
+use tree::outcome::number;
+use tree::outcome::value;
 
 // Bytes taken, cells and tokens lent: `input-limit`, `desk-cells` and `desk-tokens` of meaning's Desk.
 pub const TAKEN: usize = 8192;
@@ -34,7 +34,8 @@ fn answered(pattern: &[u8], text: &[u8], out: &mut [u8]) -> usize
     let mut cells = [0u64; CELLS];
     let mut room = [0u16; TOKENS];
     let got = first_tree(pattern, text, &mut cells, &mut room);
-    answer(out, number(got), value(got), flag(got), &room)
+    let n = number(got) as usize;
+    answer(out, n, value(got), flag(got), &room)
 }
 
 // The lines of the bytes taken.

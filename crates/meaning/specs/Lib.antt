@@ -7,3 +7,4 @@ pub mod ReadPattern
 pub mod Promise
 pub mod Desk
 pub mod Readings
+pub mod Calls

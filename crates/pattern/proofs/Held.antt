@@ -1,4 +1,4 @@
--- What a caller may rely on of an answer. Assumes nothing.
+-- What a caller may rely on of rows that were filled. Assumes nothing.
 use mathlib.Core.Path.{_≡_, refl, ap}
 use mathlib.Core.List.{List}
 use Prim.Native.Nat.{ℕ, _-_, _<_}
@@ -12,11 +12,11 @@ use Rattle.meaning.specs.Promise.{Read, long-pattern, refused, accepted, Refuse
 use Rattle.grammar.specs.Accepted.{accepted-nodes, accepted-holds}
 use Rattle.grammar.specs.Holds.{Stands, Holds, padded-stands, length-words}
 use Rattle.grammar.specs.ReadPromise.{refused-range}
-use Rattle.pattern.specs.Answers.{number-of, value-of, parts-of}
+use Rattle.pattern.specs.Answers.{number-of, value-of, parts-of, rows-of, Fills}
 use Rattle.pattern.specs.declared.Reading.the-variants as readings
 use Rattle.pattern.specs.declared.ReadPattern.{ReadPattern}
-use Rattle.pattern.specs.declared.Answer.{Answer}
-use Rattle.pattern.proofs.Unique.{Answers}
+use Rattle.pattern.specs.declared.Filled.{Filled}
+use Rattle.pattern.proofs.Filling.{filled-read}
 
 -- ---- an accepted pattern
 
@@ -47,7 +47,7 @@ holding {pat} {e} P a q = record {
     ns : P .nodes ≡ nodes e
     ns = part (λ r. r .nodes)
 
--- ---- an answer
+-- ---- rows that were filled
 
 -- the pattern is accepted, and P holds what it denotes
 pub record Held (pat : List ℕ) (P : ReadPattern) : Type 0 where
@@ -70,12 +70,12 @@ refused-part (long-pattern h) y z = absurd (z refl)
 refused-part (refused h r) y z = r
 refused-part (accepted a) y z = absurd (y refl)
 
-module _ {pat : List ℕ} (a : Answer) (h : Answers pat a) where
-  pub held : a .reading ≡ readings.Read → Held pat (a .pattern)
-  held e = accepted-part (a .pattern) h (ap number-of e) refl
+module _ {pat : List ℕ} {f : Filled} {kind arg class : List ℕ} (h : Fills pat f kind arg class) where
+  pub held : f .reading ≡ readings.Read → Held pat (rows-of f kind arg class)
+  held e = let z = ap number-of e in accepted-part (rows-of f kind arg class) (filled-read h z) z refl
 
-  pub too-long : a .reading ≡ readings.TooLong → pattern-limit < length pat
-  too-long e = long-part h (ap number-of e)
+  pub too-long : f .reading ≡ readings.TooLong → pattern-limit < length pat
+  too-long e = long-part (h .answers) (ap number-of e)
 
-  pub refusal : (number-of (a .reading) ≡ 0 → ⊥) → (number-of (a .reading) ≡ 1 → ⊥) → Refused pat (number-of (a .reading)) (value-of (a .reading))
-  refusal = refused-part h
+  pub refusal : (number-of (f .reading) ≡ 0 → ⊥) → (number-of (f .reading) ≡ 1 → ⊥) → Refused pat (number-of (f .reading)) (value-of (f .reading))
+  refusal = refused-part (h .answers)

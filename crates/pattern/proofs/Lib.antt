@@ -7,5 +7,6 @@ pub mod Written
 pub mod Steps
 pub mod Marks
 pub mod Whole
+pub mod Filling
 pub mod Unique
 pub mod Held

@@ -5,9 +5,8 @@ use mathlib.Core.List.{List}
 use Prim.Native.Nat.{ℕ}
 use lib.Dec.{eqb}
 use Rattle.meaning.specs.ReadPattern as meaning
-use Rattle.meaning.specs.Promise as promise
 use Rattle.grammar.specs.ReadPromise.{read-one}
-use Rattle.pattern.specs.Answers.{number-of, value-of, parts-of}
+use Rattle.pattern.specs.Answers.{number-of, value-of, parts-of, Answers}
 use Rattle.pattern.specs.declared.Reading.{Reading}
 use Rattle.pattern.specs.declared.Reading.the-variants.{Read, TooLong, NoPattern, TooDeep, ManyPositions, ManyMarks}
 use Rattle.pattern.specs.declared.ReadPattern.{ReadPattern}
@@ -34,10 +33,6 @@ pattern-one P P′ e = ap made e
   where
     made : meaning.ReadPattern → ReadPattern
     made r = record { kind = r .kind; arg = r .arg; class = r .class; nodes = r .nodes; positions = r .positions; marks = r .marks }
-
--- what the contract says of an answer
-abbrev pub Answers : List ℕ → Answer → Type 0
-Answers pat a = promise.Read pat (number-of (a .reading)) (value-of (a .reading)) (parts-of (a .pattern))
 
 pub answer-one : {pat : List ℕ} (a a′ : Answer) → Answers pat a → Answers pat a′ → a ≡ a′
 answer-one a a′ h h′ =

@@ -14,22 +14,17 @@ use Rattle.grammar.specs.Place.{Stops, Reading, stops-mistake}
 use Rattle.grammar.specs.ByteRow.{bytes-of}
 use Rattle.grammar.specs.Contract.{List-done, Fails, fails-deep, read-done, read-short}
 use Rattle.grammar.specs.Holds.{nodes-some, kinds-length, args-length, length-words}
-use Rattle.pattern.specs.Answers.{number-of, value-of, parts-of, Refusal}
-use Rattle.pattern.specs.Stores.{bare-args, Stores, stores, Became, Lies, Numberable, Numbers}
+use Rattle.pattern.specs.Answers.{parts-of, Blank}
+use Rattle.pattern.specs.Stores.{bare-args, Stores, stores, Room, Became, Lies, Numberable, Numbers}
 use Rattle.pattern.specs.Parts.{Read-to}
 use Rattle.pattern.specs.declared.nodes.Cursor.{Cursor}
-use Rattle.pattern.specs.declared.Reading as declared
 use Rattle.pattern.specs.declared.ReadPattern.{ReadPattern}
-use Rattle.pattern.specs.declared.Answer.{Answer}
 use Rattle.pattern.proofs.Rows.{sets-stands, length-bare-args}
 
 -- ---- rows of zeros, written from the front on
 
 abbrev pub zeros : ℕ → List ℕ
 zeros n = replicate n 0
-
-abbrev pub blank : Stores
-blank = stores (zeros 1024) (zeros 1024) (zeros 256)
 
 length-zeros : (n : ℕ) → length (zeros n) ≡ n
 length-zeros n = length-replicate n 0
@@ -68,8 +63,11 @@ pub record Whole (s : List ℕ) (d : Cursor) (S : Stores) : Type 0 where
   pub arg : S .arg ≡ sets (zeros 1024) 0 (bare-args 0 0 reading)
   pub word : S .word ≡ sets (zeros 256) 0 (words reading)
 
-pub whole : {s : List ℕ} {c d : Cursor} {S : Stores} → Became c 0 0 0 0 → Read-to 1 List-done s 64 c d blank S → Whole s d S
-whole b h = record {
+pub room : {k a w : List ℕ} → Blank k a w → Room (stores k a w)
+room z = record { kinds = rw (z .kinds) (length-zeros 1024); args = rw (z .args) (length-zeros 1024); words = rw (z .classes) (length-zeros 256) }
+
+pub whole : {s k a w : List ℕ} {c d : Cursor} {S : Stores} → Blank k a w → Became c 0 0 0 0 → Read-to 1 List-done s 64 c d (stores k a w) S → Whole s d S
+whole z b h = record {
   reading = h .reading;
   deep = h .deep;
   shallow = h .shallow;
@@ -79,16 +77,12 @@ whole b h = record {
   used = omega (arith, b, h .wrote .used);
   places = omega (arith, b, h .wrote .places);
   marked = omega (arith, b, h .wrote .marked);
-  kind = rw (b .used) at (h .wrote .kind);
-  arg = rw (b .used, b .places) at (h .wrote .arg);
-  word = rw (b .places) at (h .wrote .word);
+  kind = rw (z .kinds, b .used) at (h .wrote .kind);
+  arg = rw (z .args, b .used, b .places) at (h .wrote .arg);
+  word = rw (z .classes, b .places) at (h .wrote .word);
 }
 
 -- ---- refusals
-
-pub refusal : {s : List ℕ} {r : declared.Reading} {a : Answer} → Refusal r a → Read s (number-of r) (value-of r) no-parts
-    → Read s (number-of (a .reading)) (value-of (a .reading)) (parts-of (a .pattern))
-refusal h q = rw (h .reading, h .no-parts) q
 
 module _ {s : List ℕ} (short : length s ≤ 512) where
   pub no-pattern : {p : ℕ} → ((i : ℕ) → i < length s → getD s i 0 < 256) → Stops s p → Read s 4 p no-parts

@@ -7,7 +7,7 @@ use lib.ListN.{length, getD}
 use Rattle.meaning.specs.Expression.{Re}
 use Rattle.grammar.specs.Machine.{Sign}
 use Rattle.grammar.specs.Contract.{Atom-done, Item-done, Item-fails, Branch-done, Fronts-done, List-done, List-fails}
-use Rattle.pattern.specs.Stores.{Stores, Moved, Wrote}
+use Rattle.pattern.specs.Stores.{Stores, Room, Moved, Wrote}
 use Rattle.pattern.specs.declared.nodes.Cursor.{Cursor}
 use Rattle.pattern.specs.declared.parts.Got.{Got}
 use Rattle.pattern.specs.declared.parts.Got.the-variants.{Done, Failed}
@@ -59,16 +59,16 @@ Fronts-at s i j e d = Fronts-done s i (j + 1) e d
 
 abbrev pub Atomed : List ℕ → ℕ → Cursor → Stores → Stores → Got → Type 0
 Atomed s left c S S′ (Done d) = Read-to 1 Atom-done s left c d S S′
-Atomed s left c S S′ Failed = Item-fails s (c .at) left
+Atomed s left c S S′ Failed = Item-fails s (c .at) left × Room S′
 
 abbrev pub Itemed : List ℕ → ℕ → Cursor → Stores → Stores → Got → Type 0
 Itemed s left c S S′ (Done d) = Read-to 1 Item-done s left c d S S′
-Itemed s left c S S′ Failed = Item-fails s (c .at) left
+Itemed s left c S S′ Failed = Item-fails s (c .at) left × Room S′
 
 abbrev pub Branched : List ℕ → ℕ → Cursor → Stores → Stores → Got → Type 0
 Branched s left c S S′ (Done d) = Read-to 1 Branch-done s left c d S S′ × End s (d .at)
-Branched s left c S S′ Failed = Item-fails s (c .at) left
+Branched s left c S S′ Failed = Item-fails s (c .at) left × Room S′
 
 abbrev pub Listed : List ℕ → ℕ → Cursor → Stores → Stores → Got → Type 0
 Listed s left c S S′ (Done d) = Read-to 1 List-done s left c d S S′ × (d .at < length s → getD s (d .at) 0 ≡ 41)
-Listed s left c S S′ Failed = List-fails s (c .at) left
+Listed s left c S S′ Failed = List-fails s (c .at) left × Room S′

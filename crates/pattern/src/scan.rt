@@ -133,18 +133,18 @@ fn ended(c: Reach) -> Past
     Past::Not(c.at)
 }
 
-// Whether the whole row is a pattern, limits set aside, or the place that is bad.
-pub fn scan(p: &[u8]) -> Past
-    ensures { λ r. ⌜ Scanned (now (p .entry)) r ⌝ }
+// Whether the whole row is a pattern, limits set aside, or the place that is bad. `none` is for the classes, and keeps none.
+pub fn scan(p: &[u8], none: &mut [u64; 256]) -> Past
+    requires { ⌜ length (now none) ≡ 256 ⌝ }
+    ensures { λ r. ⌜ Scanned (now (p .entry)) r × (now (none .exit) ≡ now (none .entry)) ⌝ }
 {
-    let mut none = [0u64; 256];
     let mut c = Reach {
         at: 0,
         groups: 0,
         behind: Behind::Nothing,
     };
     while c.at < p.len() {
-        match step(p, &mut none, c) {
+        match step(p, none, c) {
             Turn::Bad(k) => return Past::Not(k),
             Turn::On(d) => c = d,
         }

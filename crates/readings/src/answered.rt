@@ -1,15 +1,17 @@
 // What is answered, printed.
 use libc::STDOUT_FILENO;
-use lines::outcome::flag;
-use lines::outcome::number as numbered;
-use lines::outcome::value;
 use lines::print::answer_line;
 use lines::print::tree_line;
-use tree::first_tree::Outcome;
+use tree::outcome::Outcome;
+use tree::outcome::flag;
+use tree::outcome::number as numbered;
+use tree::outcome::value;
 use tree::turns::TurnCount;
+use tree::turns::count;
+use tree::turns::number as turns_number;
 
 // A row of more tokens is not printed.
-const SHORT: usize = 16;
+pub const SHORT: usize = 16;
 
 pub fn say(w: &[u8]) {
     io::write_all(STDOUT_FILENO, w);
@@ -32,7 +34,7 @@ fn line_one(n: usize, v: usize, f: usize) {
     said(&out, end);
 }
 
-fn line_two(row: &[u16], n: usize) {
+pub fn line_two(row: &[u16], n: usize) {
     let mut out = [0u8; 128];
     if n <= SHORT {
         if n <= row.len() {
@@ -43,7 +45,7 @@ fn line_two(row: &[u16], n: usize) {
 }
 
 pub fn show(got: Outcome, room: &[u16]) {
-    let n = numbered(got);
+    let n = numbered(got) as usize;
     let v = value(got);
     line_one(n, v, flag(got));
     if n == 0 {
@@ -61,8 +63,5 @@ fn turns_line(n: usize, count: usize) {
 
 // The number 0 and the count, or 10.
 pub fn counted(got: TurnCount) {
-    match got {
-        TurnCount::Count(count) => turns_line(0, count),
-        TurnCount::NoMark => turns_line(10, 0),
-    }
+    turns_line(turns_number(got) as usize, count(got));
 }

@@ -1,11 +1,15 @@
 // What is asked, printed and handed on.
+use crate::answered::SHORT;
 use crate::answered::counted;
+use crate::answered::line_two;
 use crate::answered::number;
 use crate::answered::say;
 use crate::answered::show;
 use lines::desk::ROOM;
 use lines::desk::desk_lines;
 use lines::print::word;
+use rows::Row;
+use rows::row_of;
 use tree::first_tree::first_tree;
 use tree::turns::turns;
 
@@ -156,4 +160,21 @@ pub fn desk(input: &[u8]) {
     say(b"\n");
     let end = desk_lines(input, &mut out);
     say(&out[..end]);
+}
+
+fn too_long(n: usize) {
+    amount(b"too long: ", n);
+    say(b"\n");
+}
+
+// A TREE line, read back and printed again.
+pub fn back(line: &[u8]) {
+    let mut room = [0u16; SHORT];
+    labelled(b"read back ", line);
+    say(b"\n");
+    match row_of(line, &mut room) {
+        Row::Tokens(n) => line_two(&room, n),
+        Row::SmallRoom(n) => too_long(n),
+        Row::NoRow => say(b"no row\n"),
+    }
 }

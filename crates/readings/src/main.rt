@@ -2,6 +2,7 @@
 mod answered;
 mod asked;
 
+use asked::back;
 use asked::desk;
 use asked::grown;
 use asked::lent;
@@ -66,6 +67,20 @@ fn turn_counts() {
     turned(65);
 }
 
+// Lines of a row, and of none: a number that the printer would write otherwise, or that is past its bits; a line that breaks off or goes on.
+fn lines_back() {
+    back(b"TREE o1 b97 c1 o3 b98 c3\n");
+    back(b"TREE\n");
+    back(b"TREE b65279\n");
+    back(b"TREE b65280\n");
+    back(b"TREE o01\n");
+    back(b"TREE o128\n");
+    back(b"TREE o1");
+    back(b"TREE o1\n\n");
+    back(b"TREES\n");
+    back(b"TREE o1 c1 o1 c1 o1 c1 o1 c1 o1 c1 o1 c1 o1 c1 o1 c1 o1 c1\n");
+}
+
 fn main() {
     not_patterns();
     not_trees();
@@ -75,4 +90,5 @@ fn main() {
     loans();
     turn_counts();
     desk(b"(a|ab)b?\nab");
+    lines_back();
 }

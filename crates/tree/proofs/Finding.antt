@@ -22,7 +22,7 @@ use Rattle.passes.specs.Tables.{Tables}
 use Rattle.sets.specs.declared.set.Set.{Set}
 use Rattle.sets.specs.Members.{row, rows}
 use Rattle.walks.specs.Root.{Root, Tabled}
-use Rattle.tree.specs.declared.search.Found.{Found}
+use Rattle.tree.specs.declared.outcome.Outcome.{Outcome}
 use Rattle.tree.specs.Judge.{Given, Judgeable, SoughtAs, Finds}
 
 -- the elements of a slice of bytes
@@ -58,5 +58,5 @@ module _ {e : Re} {ks gs cs : List ℕ} {root n k : ℕ} (G : Given e ks gs cs r
       tables = exact;
     }
 
-pub finds : {e : Re} {text cells cells′ t t′ : List ℕ} {r : Found} → SoughtAs e text t t′ r → cells′ ≡ cleared text cells → Finds e text cells cells′ t t′ r
+pub finds : {e : Re} {text cells cells′ t t′ : List ℕ} {r : Outcome} → SoughtAs e text t t′ r → cells′ ≡ cleared text cells → Finds e text cells cells′ t t′ r
 finds s c = record { sought = s; clear = c }

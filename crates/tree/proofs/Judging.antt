@@ -24,7 +24,7 @@ use Rattle.sets.specs.declared.set.Set.{Set}
 use Rattle.sets.specs.Members.{has, row, meets}
 use Rattle.walks.specs.Enter.{openTo}
 use Rattle.walks.proofs.Looks.{open-is}
-use Rattle.tree.specs.declared.search.Found.the-variants as found-as
+use Rattle.tree.specs.declared.outcome.Outcome.the-variants as outcome
 use Rattle.along.specs.declared.walk.Walked.{Walked}
 use Rattle.tree.specs.Judge.{Judgeable, SoughtAs}
 use Rattle.tree.specs.Search as search
@@ -67,7 +67,7 @@ module _ {e : Re} {ks gs fs mask follow text cells : List ℕ} {root k : ℕ} (J
     a-tree = y;
   }
 
-  pub judge-tree : {t t′ : List ℕ} {w : Walked} → found e text ≡ true → Measures e text w → t′ ≡ kept (firstRow e text) t → SoughtAs e text t t′ (found-as.Tree (w .length) (w .other))
+  pub judge-tree : {t t′ : List ℕ} {w : Walked} → found e text ≡ true → Measures e text w → t′ ≡ kept (firstRow e text) t → SoughtAs e text t t′ (outcome.Tree (w .length) (w .other))
   judge-tree y M z = sought-tree (first-tree e (J .rooted .fair) few text y) (first-flag e (J .rooted .fair) few text y) (M .long) (ap (λ (b : Bool). cond b 1 0) (M .other)) z
 
   -- a room for every tree holds the first
@@ -77,5 +77,5 @@ module _ {e : Re} {ks gs fs mask follow text cells : List ℕ} {root k : ℕ} (J
       let j : room-for (marks e) (length text) ≤ l = rw (J .rooted .marks-are) at i in
       omega (arith, j, row-length e 0 text (firstRow e text) (first-tree e (J .rooted .fair) few text y .tree))
 
-  pub judge-none : {t : List ℕ} {n : ℕ} → found e text ≡ false → n ≡ readable mask follow (has (row fs root)) text → SoughtAs e text t t (found-as.NoTree n)
+  pub judge-none : {t : List ℕ} {n : ℕ} → found e text ≡ false → n ≡ readable mask follow (has (row fs root)) text → SoughtAs e text t t (outcome.NoTree n)
   judge-none y z = rw z (search.no-tree (no-tree e text y) (readable-longest e (J .rooted .can-read) mask follow (J .last) (row fs root) (J .tables) text (J .bytes)))

@@ -1,4 +1,4 @@
--- From the pattern reader's answer to the promise of the search. Assumes nothing.
+-- From the rows that the pattern reader filled to the promise of the search. Assumes nothing.
 use mathlib.Core.Path.{_≡_, sym, ap, _∙_}
 use mathlib.Core.List.{List}
 use Prim.Native.Nat.{ℕ, _-_, _≤_, _<_}
@@ -12,15 +12,15 @@ use Rattle.meaning.specs.Promise.{Ready, Refused}
 use Rattle.meaning.specs.ReadPattern.{nodes}
 use Rattle.grammar.specs.Accepted.{accepted-fair, accepted-open}
 use Rattle.grammar.specs.Holds.{nodes-some}
-use Rattle.pattern.specs.declared.Answer.{Answer}
+use Rattle.pattern.specs.declared.Filled.{Filled}
 use Rattle.pattern.specs.declared.ReadPattern.{ReadPattern}
 use Rattle.pattern.specs.declared.Reading.{Reading}
 use Rattle.pattern.specs.Answers as read
 use Rattle.pattern.proofs.Held.{Held, refusal}
-use Rattle.pattern.proofs.Unique.{Answers}
-use Rattle.tree.specs.declared.search.Found.{Found}
+use Rattle.tree.specs.declared.outcome.Outcome.{Outcome}
 use Rattle.tree.specs.Judge.{Given, Gives, Finds}
-use Rattle.tree.specs.Search.{Searched, refused, sought, number-of, value-of, flag-of}
+use Rattle.tree.specs.Outcome.{number-of, value-of, flag-of}
+use Rattle.tree.specs.Search.{Searched, refused, sought}
 use Rattle.tree.proofs.ClassWords.{reads-classed}
 use Rattle.tree.proofs.Finding.{bytes-fit}
 
@@ -55,14 +55,14 @@ module _ {pat : List ℕ} {P : ReadPattern} (bytes : (i : ℕ) → Fits w8 (getD
   pub some-node : 1 ≤ P .nodes
   some-node = omega (arith, H .holding .nodes-are, nodes-some (H .denotes))
 
-  pub searched : {text cells cells′ t t′ : List ℕ} {r : Found} → Ready pat text cells
+  pub searched : {text cells cells′ t t′ : List ℕ} {r : Outcome} → Ready pat text cells
       → ((e : Re) → Given e (P .kind) (P .arg) (P .class) (P .nodes - 1) (P .positions) (P .marks) → Finds e text cells cells′ t t′ r)
       → Searched pat text cells t (number-of r) (value-of r) (flag-of r) cells′ t′
   searched g f = let x = f (H .denotes) given-of in rw (x .clear) (sought g (H .accepted) (x .sought))
 
 -- a refusal
-pub refuses : {pat text cells t : List ℕ} (a : Answer) (r : Reading) → Answers pat a → Ready pat text cells → a .reading ≡ r → (read.number-of r ≡ 0 → ⊥) → (read.number-of r ≡ 1 → ⊥)
-    → Searched pat text cells t (read.number-of r) (read.value-of r) 0 cells t
-refuses {pat} a r h g e x y =
-    let z : Refused pat (read.number-of r) (read.value-of r) = rw e at (refusal a h (λ n. x (sym (ap read.number-of e) ∙ n)) (λ n. y (sym (ap read.number-of e) ∙ n))) in
+pub refuses : {pat text cells t kind arg class : List ℕ} {f : Filled} (r : Reading) → read.Fills pat f kind arg class → Ready pat text cells → f .reading ≡ r
+    → (read.number-of r ≡ 0 → ⊥) → (read.number-of r ≡ 1 → ⊥) → Searched pat text cells t (read.number-of r) (read.value-of r) 0 cells t
+refuses {pat} r h g e x y =
+    let z : Refused pat (read.number-of r) (read.value-of r) = rw e at (refusal h (λ n. x (sym (ap read.number-of e) ∙ n)) (λ n. y (sym (ap read.number-of e) ∙ n))) in
     refused g z

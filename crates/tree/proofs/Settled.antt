@@ -1,5 +1,5 @@
 -- One answer for each input: two outcomes that the promise allows are the same, the lent rows included. Assumes nothing.
-use mathlib.Core.Path.{_≡_, refl, sym, ap, _∙_}
+use mathlib.Core.Path.{_≡_, refl, sym, _∙_}
 use mathlib.Core.Bool.{Bool, true, false, cond}
 use mathlib.Core.List.{List}
 use Prim.Native.Nat.{ℕ, max, _≤_, _<_}
@@ -10,12 +10,9 @@ use lib.ListN.{length, replicate, length-replicate}
 use borrow.Author.Tests.{eqb-true, eqb-false}
 use Rattle.meaning.specs.Promise.{Answered}
 use Rattle.laws.specs.Promises.{answered-one}
-use Rattle.tree.specs.declared.search.Found.{Found}
-use Rattle.tree.specs.declared.search.Found.the-variants as found
-use Rattle.tree.specs.declared.first_tree.Outcome.{Outcome}
-use Rattle.tree.specs.declared.first_tree.Outcome.the-variants as outcome
+use Rattle.tree.specs.declared.outcome.Outcome.{Outcome}
+use Rattle.tree.specs.declared.outcome.Outcome.the-variants as outcome
 use Rattle.tree.specs.Outcome.{number-of, value-of, flag-of}
-use Rattle.tree.specs.Search as search
 use Rattle.tree.specs.Search.{no-tree, a-tree, Searched, sought}
 use Rattle.tree.proofs.Answers.{plain, fits, long}
 
@@ -99,34 +96,9 @@ room-one {pat} {text} {cells} {room} {cells₁} {cells₂} {room₁} {room₂} {
     go true e h = let z : n ≡ 0 = eqb-true n 0 e in answered-one (long s z h) (long s′ (omega arith) (omega arith)) .0 .3
     go false e h = let k = eqb-false n 0 e in answered-one (plain s k) (plain s′ (λ z. k (i ∙ z))) .0 .3
 
--- the answer of the search that is told so
-found-of : Outcome → Found
-found-of outcome.LongPattern = found.LongPattern
-found-of outcome.LongText = found.LongText
-found-of outcome.FewCells = found.FewCells
-found-of (outcome.NoPattern place) = found.NoPattern place
-found-of outcome.TooDeep = found.TooDeep
-found-of outcome.ManyPositions = found.ManyPositions
-found-of outcome.ManyMarks = found.ManyMarks
-found-of (outcome.NoTree place) = found.NoTree place
-found-of (outcome.SmallRoom l) = found.NoTree l
-found-of (outcome.Tree l o) = found.Tree l o
-
-found-same : (r : Found) → found-of (search.outcome-of r) ≡ r
-unfolding found-of
-found-same found.LongPattern = refl
-found-same found.LongText = refl
-found-same found.FewCells = refl
-found-same (found.NoPattern place) = refl
-found-same found.TooDeep = refl
-found-same found.ManyPositions = refl
-found-same found.ManyMarks = refl
-found-same (found.NoTree place) = refl
-found-same (found.Tree l o) = refl
-
-pub found-one : {pat text cells room cells₁ cells₂ room₁ room₂ : List ℕ} (r r′ : Found)
-    → Searched pat text cells room (search.number-of r) (search.value-of r) (search.flag-of r) cells₁ room₁
-    → Searched pat text cells room (search.number-of r′) (search.value-of r′) (search.flag-of r′) cells₂ room₂ → (r ≡ r′) × (cells₁ ≡ cells₂) × (room₁ ≡ room₂)
+pub found-one : {pat text cells room cells₁ cells₂ room₁ room₂ : List ℕ} (r r′ : Outcome)
+    → Searched pat text cells room (number-of r) (value-of r) (flag-of r) cells₁ room₁ → Searched pat text cells room (number-of r′) (value-of r′) (flag-of r′) cells₂ room₂
+    → (r ≡ r′) × (cells₁ ≡ cells₂) × (room₁ ≡ room₂)
 found-one r r′ s s′ =
     let z = numbers-one s s′ in
-    (sym (found-same r) ∙ ap found-of (outcomes (search.outcome-of r) (search.outcome-of r′) (z .0) (z .1) (z .2)) ∙ found-same r′, z .3, room-one s s′ (z .0) (z .1))
+    (outcomes r r′ (z .0) (z .1) (z .2), z .3, room-one s s′ (z .0) (z .1))

@@ -17,8 +17,9 @@ use Rattle.passes.specs.Masks.{classed}
 use Rattle.passes.specs.Tables.{Tables}
 use Rattle.sets.specs.declared.set.Set.{Set}
 use Rattle.sets.specs.Members.{has, row, rows}
-use Rattle.tree.specs.declared.search.Found.{Found}
-use Rattle.tree.specs.Search.{Sought, number-of, value-of, flag-of}
+use Rattle.tree.specs.declared.outcome.Outcome.{Outcome}
+use Rattle.tree.specs.Outcome.{number-of, value-of, flag-of}
+use Rattle.tree.specs.Search.{Sought}
 
 -- the root holds e, which is within the limits, has k marks, and can be read
 pub record Rooted (e : Re) (ks gs : List ℕ) (root k : ℕ) : Type 0 where
@@ -57,10 +58,10 @@ pub record Judges (ks gs fs mask follow : List ℕ) (root k : ℕ) (text cells :
   pub e : Re
   pub judgeable : Judgeable e ks gs fs mask follow root k text cells
 
-abbrev pub SoughtAs : Re → List ℕ → List ℕ → List ℕ → Found → Type 0
+abbrev pub SoughtAs : Re → List ℕ → List ℕ → List ℕ → Outcome → Type 0
 SoughtAs e text t t′ r = Sought e text t (number-of r) (value-of r) (flag-of r) t′
 
 -- what is found, and the cells that are asked for zero
-pub record Finds (e : Re) (text cells cells′ t t′ : List ℕ) (r : Found) : Type 0 where
+pub record Finds (e : Re) (text cells cells′ t t′ : List ℕ) (r : Outcome) : Type 0 where
   pub sought : SoughtAs e text t t′ r
   pub clear : cells′ ≡ cleared text cells

@@ -1,8 +1,8 @@
 -- The number, value and flag that an answer of the first tree stands for. Assumes nothing: these are definitions.
 use mathlib.Core.Bool.{cond}
 use Prim.Native.Nat.{ℕ}
-use Rattle.tree.specs.declared.first_tree.Outcome.{Outcome}
-use Rattle.tree.specs.declared.first_tree.Outcome.the-variants.{LongPattern, LongText, FewCells, NoPattern, TooDeep, ManyPositions, ManyMarks, NoTree, SmallRoom, Tree}
+use Rattle.tree.specs.declared.outcome.Outcome.{Outcome}
+use Rattle.tree.specs.declared.outcome.Outcome.the-variants.{LongPattern, LongText, FewCells, NoPattern, TooDeep, ManyPositions, ManyMarks, NoTree, SmallRoom, Tree}
 
 abbrev pub number-of : Outcome → ℕ
 number-of LongPattern = 1

@@ -10,11 +10,9 @@ use Rattle.meaning.specs.Grammar.{Longest}
 use Rattle.meaning.specs.Limits.{pattern-limit, text-limit, cells-for}
 use Rattle.meaning.specs.Promise.{Refused, Accepted, Ready, cleared, written}
 use Rattle.meaning.specs.Tree.{First, Flag, NoTree, Begins}
-use Rattle.tree.specs.declared.first_tree.Outcome.{Outcome}
-use Rattle.tree.specs.declared.first_tree.Outcome.the-variants as outcome
-use Rattle.tree.specs.declared.search.Found.{Found}
-use Rattle.tree.specs.declared.search.Found.the-variants.{LongPattern, LongText, FewCells, NoPattern, TooDeep, ManyPositions, ManyMarks, NoTree as Nothing, Tree}
-use Rattle.tree.specs.Outcome as told
+use Rattle.tree.specs.declared.outcome.Outcome.{Outcome}
+use Rattle.tree.specs.declared.outcome.Outcome.the-variants.{SmallRoom}
+use Rattle.tree.specs.Outcome.{number-of, value-of}
 
 -- the row at the front, if the room holds it
 abbrev pub kept : List ℕ → List ℕ → List ℕ
@@ -34,28 +32,6 @@ pub data Searched (pat text cells room : List ℕ) : ℕ → ℕ → ℕ → Lis
   sought : {e : Re} {n v f : ℕ} {room′ : List ℕ} → Ready pat text cells → Accepted pat e → Sought e text room n v f room′
       → Searched pat text cells room n v f (cleared text cells) room′
 
--- an answer of the search as one of the first tree, in a room that holds the row
-abbrev pub outcome-of : Found → Outcome
-outcome-of LongPattern = outcome.LongPattern
-outcome-of LongText = outcome.LongText
-outcome-of FewCells = outcome.FewCells
-outcome-of (NoPattern place) = outcome.NoPattern place
-outcome-of TooDeep = outcome.TooDeep
-outcome-of ManyPositions = outcome.ManyPositions
-outcome-of ManyMarks = outcome.ManyMarks
-outcome-of (Nothing place) = outcome.NoTree place
-outcome-of (Tree length other) = outcome.Tree length other
-
--- the number, value and flag that it stands for
-abbrev pub number-of : Found → ℕ
-number-of r = told.number-of (outcome-of r)
-
-abbrev pub value-of : Found → ℕ
-value-of r = told.value-of (outcome-of r)
-
-abbrev pub flag-of : Found → ℕ
-flag-of r = told.flag-of (outcome-of r)
-
 -- what is told of it in a room of so many tokens: of a tree whose row the room does not hold, the length alone
-abbrev pub tell : Found → ℕ → Outcome
-tell r room = cond (eqb (number-of r) 0 && ltb room (value-of r)) (outcome.SmallRoom (value-of r)) (outcome-of r)
+abbrev pub tell : Outcome → ℕ → Outcome
+tell r room = cond (eqb (number-of r) 0 && ltb room (value-of r)) (SmallRoom (value-of r)) r

@@ -3,43 +3,22 @@ ghost use mathlib.Core.Path.{_≡_};
 ghost use Rattle.meaning.specs.Promise.{Answered};
 ghost use Rattle.tree.specs.Outcome.{number-of, value-of, flag-of};
 ghost use Rattle.tree.specs.Search.{tell};
-use crate::search::Found;
+use crate::outcome::Outcome;
+use crate::outcome::number;
+use crate::outcome::value;
 use crate::search::search;
 
-// One for each line of the table of answers: the place, the length, the length and whether another tree exists.
-pub enum Outcome {
-    LongPattern,
-    LongText,
-    FewCells,
-    NoPattern(usize),
-    TooDeep,
-    ManyPositions,
-    ManyMarks,
-    NoTree(usize),
-    SmallRoom(usize),
-    Tree(usize, bool),
-}
-
 // What the search found, told of a room of so many tokens.
-fn told(found: Found, room: usize) -> Outcome
+fn told(found: Outcome, room: usize) -> Outcome
     ensures { λ r. ⌜ r ≡ tell found room ⌝ }
 {
-    match found {
-        Found::LongPattern => Outcome::LongPattern,
-        Found::LongText => Outcome::LongText,
-        Found::FewCells => Outcome::FewCells,
-        Found::NoPattern(place) => Outcome::NoPattern(place),
-        Found::TooDeep => Outcome::TooDeep,
-        Found::ManyPositions => Outcome::ManyPositions,
-        Found::ManyMarks => Outcome::ManyMarks,
-        Found::NoTree(place) => Outcome::NoTree(place),
-        Found::Tree(length, other) => {
-            if room < length {
-                return Outcome::SmallRoom(length);
-            }
-            Outcome::Tree(length, other)
+    if number(found) == 0 {
+        let length = value(found);
+        if room < length {
+            return Outcome::SmallRoom(length);
         }
     }
+    found
 }
 
 // Writes the row of the first tree of the text to the front of the room.

@@ -4,10 +4,12 @@ ghost use lib.ListN.{length};
 ghost use Rattle.meaning.specs.Expression.{Re};
 ghost use Rattle.meaning.specs.Limits.{text-limit};
 ghost use Rattle.sets.specs.Members.{limit, rows};
-ghost use Rattle.tree.specs.Search.{Searched, number-of, value-of, flag-of};
+ghost use Rattle.tree.specs.Outcome.{number-of, value-of, flag-of};
+ghost use Rattle.tree.specs.Search.{Searched};
 ghost use Rattle.walks.specs.Root.{Charted};
 ghost use Rattle.along.specs.Walk.{Measures, Walkable, Walks};
 ghost use Rattle.tree.specs.Judge.{Given, Gives, Judgeable, Judges, SoughtAs, Finds};
+use crate::outcome::Outcome;
 use crate::room::room_for;
 use along::walk::Walked;
 use along::walk::walk;
@@ -17,25 +19,13 @@ use passes::masks::masks;
 use passes::place::place;
 use pattern::PATTERN_LIMIT;
 use pattern::Reading;
-use pattern::read;
+use pattern::fill;
 use sets::set::Set;
 use walks::look::open_to;
 use walks::tables::tables;
 
 // Bytes of a text.
 pub const TEXT_LIMIT: usize = 4096;
-
-pub enum Found {
-    LongPattern,
-    LongText,
-    FewCells,
-    NoPattern(usize),
-    TooDeep,
-    ManyPositions,
-    ManyMarks,
-    NoTree(usize),
-    Tree(usize, bool),
-}
 
 // The walk along the text with next to no room, for what it counts.
 fn measure<'a>(
@@ -83,7 +73,7 @@ fn judge<'a>(
     text: &[u8],
     cells: &[u64],
     tree: &mut [u16],
-) -> Found
+) -> Outcome
     requires { ⌜ Judges (now kind) (now arg) (now first) (now mask) (now follow) root marks (now text) (now cells) ⌝ }
     requires { ⌜ Charted (now kind) (now arg) (now null) (now first) (now upto) (now follow) root ⌝ }
     requires { ⌜ (256 ≤ rows (now mask)) × (limit ≤ rows (now follow)) ⌝ }
@@ -105,7 +95,7 @@ fn judge<'a>(
                 cells,
                 tree,
             );
-            return Found::Tree(w.length, w.other);
+            return Outcome::Tree(w.length, w.other);
         }
         let w = measure(kind, arg, null, first, upto, follow, root, text, cells);
         let length = w.length;
@@ -123,9 +113,9 @@ fn judge<'a>(
                 tree,
             );
         }
-        return Found::Tree(length, w.other);
+        return Outcome::Tree(length, w.other);
     }
-    Found::NoTree(place(text, mask, follow, Set::load(first, root)))
+    Outcome::NoTree(place(text, mask, follow, Set::load(first, root)))
 }
 
 // For a read pattern whose last node is `root`: fills the tables and the cells, judges, and clears the cells.
@@ -139,7 +129,7 @@ fn find<'a>(
     text: &[u8],
     cells: &mut [u64],
     tree: &mut [u16],
-) -> Found
+) -> Outcome
     requires { ⌜ Gives (now kind) (now arg) (now class) root positions marks ⌝ }
     requires { ⌜ (length (now text) ≤ text-limit) × (length (now text) < length (now cells)) ⌝ }
     ensures { λ r. ⌜ ((e : Re) → Given e (now (kind .entry)) (now (arg .entry)) (now (class .entry)) root positions marks
@@ -180,40 +170,39 @@ fn find<'a>(
 }
 
 // Reads the pattern and finds the first tree of the text: its length, and whether there is another tree, whether or not the room holds it.
-pub fn search(pattern: &[u8], text: &[u8], cells: &mut [u64], tree: &mut [u16]) -> Found
+pub fn search(pattern: &[u8], text: &[u8], cells: &mut [u64], tree: &mut [u16]) -> Outcome
     ensures { λ r. ⌜ Searched (now (pattern .entry)) (now (text .entry)) (now (cells .entry)) (now (tree .entry)) (number-of r) (value-of r) (flag-of r) (now (cells .exit)) (now (tree .exit)) ⌝ }
 {
     if PATTERN_LIMIT < pattern.len() {
-        return Found::LongPattern;
+        return Outcome::LongPattern;
     }
     if TEXT_LIMIT < text.len() {
-        return Found::LongText;
+        return Outcome::LongText;
     }
     if cells.len() <= text.len() {
-        return Found::FewCells;
+        return Outcome::FewCells;
     }
-    let answer = read(pattern);
-    let reading = answer.reading;
+    let mut kind = [0u8; 1024];
+    let mut arg = [0u16; 1024];
+    let mut class = [0u64; 256];
+    let got = fill(pattern, &mut kind, &mut arg, &mut class);
+    let reading = got.reading;
     match reading {
-        Reading::Read => {
-            let parts = answer.pattern;
-            let root = parts.nodes - 1;
-            find(
-                &parts.kind,
-                &parts.arg,
-                &parts.class,
-                root,
-                parts.positions,
-                parts.marks,
-                text,
-                cells,
-                tree,
-            )
-        }
-        Reading::TooLong => Found::LongPattern,
-        Reading::NoPattern(place) => Found::NoPattern(place),
-        Reading::TooDeep => Found::TooDeep,
-        Reading::ManyPositions => Found::ManyPositions,
-        Reading::ManyMarks => Found::ManyMarks,
+        Reading::Read => find(
+            &kind,
+            &arg,
+            &class,
+            got.nodes - 1,
+            got.positions,
+            got.marks,
+            text,
+            cells,
+            tree,
+        ),
+        Reading::TooLong => Outcome::LongPattern,
+        Reading::NoPattern(place) => Outcome::NoPattern(place),
+        Reading::TooDeep => Outcome::TooDeep,
+        Reading::ManyPositions => Outcome::ManyPositions,
+        Reading::ManyMarks => Outcome::ManyMarks,
     }
 }

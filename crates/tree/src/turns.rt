@@ -1,4 +1,5 @@
 // The turn count.
+ghost use mathlib.Core.Path.{_≡_};
 ghost use Rattle.meaning.specs.Promise.{Counted};
 ghost use Rattle.tree.specs.Turns.{number-of, count-of};
 use walks::node::wide;
@@ -9,6 +10,25 @@ pub const MARK_LIMIT: usize = 64;
 pub enum TurnCount {
     Count(usize),
     NoMark,
+}
+
+// Its number and its count.
+pub fn number(t: TurnCount) -> u32
+    ensures { λ r. ⌜ r ≡ number-of t ⌝ }
+{
+    match t {
+        TurnCount::Count(_) => 0,
+        TurnCount::NoMark => 10,
+    }
+}
+
+pub fn count(t: TurnCount) -> usize
+    ensures { λ r. ⌜ r ≡ count-of t ⌝ }
+{
+    match t {
+        TurnCount::Count(n) => n,
+        TurnCount::NoMark => 0,
+    }
 }
 
 // How many tokens of the row equal the mark.

@@ -1,2 +1,2 @@
 -- What the contracts cite.
-pub mod Scheduled
+pub mod Suffice

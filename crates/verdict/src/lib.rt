@@ -1,26 +1,9 @@
-// The scheduler's call.
-ghost use mathlib.Core.Path.{_≡_};
+// The scheduler's verdict.
 ghost use Rattle.meaning.specs.Promise.{Verdict};
-ghost use Rattle.verdict.specs.Scheduled.{Suffice, scheduled};
-use tree::search::Found;
+ghost use Rattle.verdict.specs.Suffice.{Suffice};
+use tree::outcome::flag;
+use tree::outcome::number;
 use tree::search::search;
-
-// What the search found, as the scheduler's number.
-fn told(found: Found) -> u32
-    ensures { λ r. ⌜ r ≡ scheduled found ⌝ }
-{
-    match found {
-        Found::LongPattern => 1,
-        Found::LongText => 2,
-        Found::FewCells => 3,
-        Found::NoPattern(_) => 4,
-        Found::TooDeep => 5,
-        Found::ManyPositions => 6,
-        Found::ManyMarks => 7,
-        Found::NoTree(_) => 8,
-        Found::Tree(_, other) => if other { 11 } else { 0 },
-    }
-}
 
 // The verdict, with cells that suffice for the text.
 fn judged(pattern: &[u8], text: &[u8], cells: &mut [u64]) -> u32
@@ -28,13 +11,16 @@ fn judged(pattern: &[u8], text: &[u8], cells: &mut [u64]) -> u32
     ensures { λ r. ⌜ Verdict (now (pattern .entry)) (now (text .entry)) r ⌝ }
 {
     let mut room = [0u16; 1];
-    told(search(pattern, text, cells, &mut room))
+    let found = search(pattern, text, cells, &mut room);
+    if flag(found) == 1 {
+        return 11;
+    }
+    number(found)
 }
 
 // 0 for exactly one tree, 11 for more than one, else the number of the refusal. The cells are the call's own, few for a short text, since
 // they are cleared first; and next to no tree is written.
-#[no_mangle]
-pub extern "C" fn dimmhalt_verdict(pattern: &[u8], text: &[u8]) -> u32
+pub fn verdict(pattern: &[u8], text: &[u8]) -> u32
     ensures { λ r. ⌜ Verdict (now (pattern .entry)) (now (text .entry)) r ⌝ }
 {
     if text.len() < 256 {

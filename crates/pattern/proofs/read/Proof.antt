@@ -1,131 +1,25 @@
--- `read` meets its contract: which answer each way through it gives. Assumes nothing.
+-- `read` meets its contract: what was filled makes the answer. Assumes nothing.
 use borrow.Author.Needs.{needs}
+use mathlib.Core.Path.{refl}
 use native.Mathlib.Omega.{arith}
-use mathlib.Core.Path.{_≡_, refl}
-use mathlib.Core.List.{List}
-use Prim.Native.Nat.{ℕ, _≤_, _<_}
-use lib.ListN.{length, getD}
-use Rattle.meaning.specs.Promise.{long-pattern}
-use Rattle.grammar.specs.Contract.{read-fails}
-use Rattle.grammar.specs.Holds.{nodes-some}
-use Rattle.pattern.specs.Stores.{stores}
-use Rattle.pattern.proofs.Whole.{Whole, whole, refusal, cut-short, many-positions, many-marks, numberable, read-whole}
+use Rattle.pattern.proofs.Filling.{filled-read, filled-refused}
 use Rattle.pattern.proofs.read.Statement.{statement}
 use Rattle.pattern.proofs.read.Tie as tie
 
--- where the list was read: the pattern, which is short
-abbrev text : tie.After-known-told → List ℕ
-text c = c .before .before .before .before .before .before .before .before .before .before .args .pattern .now
+fill-requires : tie.Need-fill-requires
+fill-requires c κs = record { kinds = refl; args = refl; classes = refl }
 
-short : (c : tie.After-known-told) → length (text c) ≤ 512
-short c = c .before .before .before .before .before .before .before .before .if1 .left
-
--- the list that was read, and the byte that it ends before
-listed : (c : tie.After-known-told) → let d = c .before .d .given .0 .0 in let left = c .before .before .before .list .last in
-    Whole (text c) d (stores (left .1 .0) (left .1 .1 .0) (left .1 .1 .1 .0)) × (d .at < length (text c) → getD (text c) (d .at) 0 ≡ 41)
-listed c = let h = rw (c .before .d .given .1) at (c .before .before .before .list .ensures) in
-    (whole (c .before .before .before .before .start .ensures) (h .0), h .1)
+number-requires : tie.Need-number-requires
+number-requires c κs = search needs
 
 refused-requires : tie.Need-refused-requires
 refused-requires c κs = search needs
 
 returns : tie.Need-returns
-returns c = refusal (c .refused .ensures) (long-pattern (c .before .if1 .taken))
-
-start-requires : tie.Need-start-requires
-start-requires c κs = search needs
-
-list-requires : tie.Need-list-requires
-list-requires c κs = search needs
-
-enum-told : tie.Need-enum-told
-enum-told c = search needs
-
-wrong-requires : tie.Need-wrong-requires
-wrong-requires c κs = let called = c .before .before in
-    let bad = rw (c .enum-told .given .1) at (called .list .ensures) in
-    (called .before .before .before .before .before .if1 .left, read-fails (rw (called .before .start .ensures .at) at bad))
-
-refused-requires-2 : tie.Need-refused-requires-2
-refused-requires-2 c κs = search needs
-
-enum-known-d : tie.Need-enum-known-d
-enum-known-d c = search needs
-
-cast-at : tie.Need-cast-at
-cast-at c = search needs
-
-refused-requires-3 : tie.Need-refused-requires-3
-refused-requires-3 c κs = search needs
+returns c = filled-refused (c .before .before .before .fill .ensures) (λ z. omega (arith, c .before .before .number .ensures, c .before .if1 .taken)) (c .refused .ensures)
 
 returns-2 : tie.Need-returns-2
-returns-2 c = let read = c .before .before .before in let h = listed read in
-    let bytes = read .before .before .before .before .before .before .before .before .before .shared-slice-known .given in
-    let inside = c .before .if2 .taken in
-    refusal (c .refused3 .ensures) (cut-short (short read) (h .0) (λ i l. omega (arith, bytes i)) inside (h .1 inside))
-
-refused-requires-4 : tie.Need-refused-requires-4
-refused-requires-4 c κs = search needs
-
-returns-3 : tie.Need-returns-3
-returns-3 c = let end = c .before .before .before in let read = end .before .before in
-    refusal (c .refused4 .ensures) (many-positions (short read) (listed read .0) (end .if2 .left) (c .before .if3 .taken))
-
-refused-requires-5 : tie.Need-refused-requires-5
-refused-requires-5 c κs = search needs
-
-returns-4 : tie.Need-returns-4
-returns-4 c = let places = c .before .before .before in let end = places .before .before in let read = end .before .before in
-    refusal (c .refused5 .ensures) (many-marks (short read) (listed read .0) (end .if2 .left) (places .if3 .left) (c .before .if4 .taken))
-
-cast-used : tie.Need-cast-used
-cast-used c = search needs
-
-sub-number : tie.Need-sub-number
-sub-number c = let h = listed (c .before .before .before .before .before .before .before .before .before) .0 in omega (arith, h .used, nodes-some (h .reading))
-
-number-requires : tie.Need-number-requires
-number-requires c κs = let marks = c .before .before .before in let places = marks .before .before in
-    let end = places .before .before in let read = end .before .before in
-    numberable (short read) (listed read .0) (end .if2 .left) (places .if3 .left) (marks .if4 .left)
-
-cast-t19 : tie.Need-cast-t19
-cast-t19 c = search needs
-
-cast-t30 : tie.Need-cast-t30
-cast-t30 c = search needs
-
-returns-5 : tie.Need-returns-5
-returns-5 c = refusal (c .refused2 .ensures) (c .before .wrong .ensures)
-
-returns-6 : tie.Need-returns-6
-returns-6 c = let numbered = c .before .before in let marks = numbered .before .before .before .before in let places = marks .before .before in
-    let end = places .before .before in let read = end .before .before in
-    read-whole (short read) (listed read .0) (end .if2 .left) (places .if3 .left) (marks .if4 .left) refl (numbered .number .ensures) refl refl refl refl
+returns-2 c = filled-read (c .before .before .fill .ensures) (omega (arith, c .before .number .ensures, c .if1 .left))
 
 pub read-spec : {M : Type 1} → statement M
-read-spec =
-    tie.close
-    (tie.spec
-    refused-requires
-    returns
-    start-requires
-    list-requires
-    enum-told
-    wrong-requires
-    refused-requires-2
-    enum-known-d
-    cast-at
-    refused-requires-3
-    returns-2
-    refused-requires-4
-    returns-3
-    refused-requires-5
-    returns-4
-    cast-used
-    sub-number
-    number-requires
-    cast-t19
-    cast-t30
-    returns-5
-    returns-6)
+read-spec = tie.close (tie.spec fill-requires number-requires refused-requires returns returns-2)

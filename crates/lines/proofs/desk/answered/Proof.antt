@@ -16,6 +16,9 @@ first-tree-requires c κs = search needs
 number-requires : tie.Need-number-requires
 number-requires c κs = search needs
 
+cast-n : tie.Need-cast-n
+cast-n c = search needs
+
 value-requires : tie.Need-value-requires
 value-requires c κs = search needs
 
@@ -26,15 +29,21 @@ slice-aggregate-answer : tie.Need-slice-aggregate-answer
 slice-aggregate-answer c = search needs
 
 answer-requires : tie.Need-answer-requires
-answer-requires c κs = let number = c .before .before .before in let tree = number .before .before .before .before .first-tree .ensures in
+answer-requires c κs =
+    let number = c .before .before .before .before in
+    let tree = number .before .before .before .first-tree .ensures in
     (search needs, answer-fits tree (number .number .ensures) (c .before .before .value .ensures))
 
 same-length : tie.Need-same-length
 same-length c = search needs
 
 returns : tie.Need-returns
-returns c = let flag = c .before .before .before .before in let value = flag .before in let number = value .before in
-    let tree = number .before .before .before .before .first-tree .ensures in let lines = c .before .before .answer .ensures in
+returns c =
+    let flag = c .before .before .before .before in
+    let value = flag .before in
+    let number = value .before .before in
+    let tree = number .before .before .before .first-tree .ensures in
+    let lines = c .before .before .answer .ensures in
     answer-of tree (number .number .ensures) (value .value .ensures) (flag .flag .ensures) (lines .0) (lines .1)
 
 pub answered-spec : {M : Type 1} → statement M
@@ -45,6 +54,7 @@ answered-spec =
     slice-aggregate-first-tree-2
     first-tree-requires
     number-requires
+    cast-n
     value-requires
     flag-requires
     slice-aggregate-answer

@@ -29,7 +29,9 @@ position-requires c κs = let kept = c .before .before .before .before .before i
     omega (arith, entry .pre .0, entry .pre .1, h .on)
 
 returns : tie.Need-returns
-returns c = let bad = rw (c .enum-told .given .1) at (c .before .before .kept .ensures) in λ left. atom-fails (bad .0)
+returns c = let entry = c .before .before .before .before .before .before in
+    let bad = rw (c .enum-told .given .1) at (c .before .before .kept .ensures) in
+    λ left. (atom-fails (bad .0), rw (bad .1) (entry .pre .0))
 
 returns-2 : tie.Need-returns-2
 returns-2 c = let kept = c .before .before .before .before .before .before in

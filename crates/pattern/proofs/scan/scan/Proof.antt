@@ -1,6 +1,6 @@
--- `scan` meets its contract. The loop's invariant: the machine has read the row up to `c`, and `none` keeps its length. Assumes nothing.
+-- `scan` meets its contract. The loop's invariant: the machine has read the row up to `c`, and `none` is as it was. Assumes nothing.
 use borrow.Author.Needs.{needs}
-use mathlib.Core.Path.{_≡_, _∙_, ap}
+use mathlib.Core.Path.{_≡_, refl, _∙_, ap}
 use native.Mathlib.Omega.{arith}
 use Prim.Native.Nat.{_-_, _≤_}
 use lib.ListN.{length}
@@ -10,22 +10,24 @@ use Rattle.pattern.proofs.scan.scan.Statement.{statement}
 use Rattle.pattern.proofs.scan.scan.Tie as tie
 
 abbrev Inv-loop : tie.InvT-loop
-Inv-loop p none₀ c₀ none c = (length none ≡ 256) × Reaches p c × (c .at ≤ length p)
+Inv-loop p none₀ c₀ none c = (none ≡ none₀) × Reaches p c × (c .at ≤ length p)
 
 abbrev μ-loop : tie.MeasureT-loop
 μ-loop p none₀ c₀ none c = length p - c .at
 
 loop-holds : tie.Need-loop-holds Inv-loop μ-loop
-loop-holds c = (search needs, scan-start, omega arith)
+loop-holds c = (refl, scan-start, omega arith)
 
 step-requires : tie.Need-step-requires Inv-loop μ-loop
-step-requires c κs = let test = c .before in let inv = test .before .before .loop .inv in (inv .0, inv .1, test .if1 .taken)
+step-requires c κs = let test = c .before in let head = test .before .before in let inv = head .loop .inv in
+    (ap length (inv .0) ∙ head .before .before .pre, inv .1, test .if1 .taken)
 
 enum-known-k : tie.Need-enum-known-k Inv-loop μ-loop
 enum-known-k c = search needs
 
 returns : tie.Need-returns Inv-loop μ-loop
-returns c = rw (c .before .k .given .1) at (c .before .before .before .step .ensures .0)
+returns c = let turn = c .before .before .before in let inv = turn .before .before .before .before .loop .inv in
+    (rw (c .before .k .given .1) at (turn .step .ensures .0), turn .step .ensures .1 ∙ inv .0)
 
 enum-known-d : tie.Need-enum-known-d Inv-loop μ-loop
 enum-known-d c = search needs
@@ -36,13 +38,14 @@ loop-less c = let h = rw (c .before .d .given .1) at (c .before .before .before 
 loop-again : tie.Need-loop-again Inv-loop μ-loop
 loop-again c = let turn = c .before .before .before in let inv = turn .before .before .before .before .loop .inv in
     let h = rw (c .before .d .given .1) at (turn .step .ensures .0) in
-    (ap length (turn .step .ensures .1) ∙ inv .0, h .0, h .1 .inside)
+    (turn .step .ensures .1 ∙ inv .0, h .0, h .1 .inside)
 
 ended-requires : tie.Need-ended-requires Inv-loop μ-loop
 ended-requires c κs = search needs
 
 returns-2 : tie.Need-returns-2 Inv-loop μ-loop
-returns-2 c = let inv = c .before .before .before .loop .inv in c .ended .ensures _ (inv .1) (omega (arith, inv .2, c .before .if1 .left))
+returns-2 c = let inv = c .before .before .before .loop .inv in
+    (c .ended .ensures _ (inv .1) (omega (arith, inv .2, c .before .if1 .left)), inv .0)
 
 pub scan-spec : {M : Type 1} → statement M
 scan-spec =

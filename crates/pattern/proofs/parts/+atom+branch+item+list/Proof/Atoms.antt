@@ -7,6 +7,7 @@ use lib.ListN.{length}
 use Rattle.pattern.specs.declared.parts.Got.the-variants.{Done}
 use Rattle.pattern.specs.Stores.{Stores, stores, Room, Within}
 use Rattle.pattern.specs.Parts.{Byte-at, Listed}
+use Rattle.pattern.proofs.Written.{room-wrote}
 use Rattle.pattern.proofs.Steps.{unit-read, group-read, no-group, no-group-left, open-group}
 use Rattle.pattern.proofs.parts.+atom+branch+item+list.Proof.Ranks.{atom-at, list-below}
 use Rattle.pattern.proofs.parts.atom.Reads as atom
@@ -100,7 +101,7 @@ module _ (t : ℕ) where
   stands-requires c κs = search needs
 
   pub returns : lts.Need-returns calls (atom-at t) atom.Post
-  returns c = no-group-left (c .if2 .taken) (opens (c .before))
+  returns c = (no-group-left (c .if2 .taken) (opens (c .before)), entry-room (entry-of (c .before)))
 
   pub add-stands : lts.Need-add-stands calls (atom-at t) atom.Post
   add-stands c = let o = opens (opened-of c) in omega (arith, o, entry-within (entry-of (opened-of c)))
@@ -134,7 +135,7 @@ module _ (t : ℕ) where
   returns-3 c = let begun = c .before .before .before in let test = begun .before .before .before .before in
       let not-shut = rw (test .if3 .left) at (test .before .stands2 .ensures) in
       let bad = rw (c .enum-told .given .1) at (c .before .before .list .ensures) in
-      no-group (fewer (spared-of begun)) (opens (opened-of (spared-of begun))) not-shut (begun .past .ensures) bad
+      (no-group (fewer (spared-of begun)) (opens (opened-of (spared-of begun))) not-shut (begun .past .ensures) (bad .0), bad .1)
 
   pub enum-known-d : lts.Need-enum-known-d calls (atom-at t) atom.Post
   enum-known-d c = search needs
@@ -154,7 +155,7 @@ module _ (t : ℕ) where
 
   pub returns-5 : lts.Need-returns-5 calls (atom-at t) atom.Post
   returns-5 c = let inner = c .before .before in let h = inner-read inner in let begun = begun-of inner in
-      open-group (opens (opened-of (spared-of begun))) (begun .past .ensures) (h .0) (c .if4 .left)
+      (open-group (opens (opened-of (spared-of begun))) (begun .past .ensures) (h .0) (c .if4 .left), room-wrote (h .0 .wrote) (entry-room (start-of begun)))
 
   pub single-requires : lts.Need-single-requires calls (atom-at t) atom.Post
   single-requires c κs = let test = c .before .before .before in let entry = test .before .before .before .before in

@@ -114,7 +114,7 @@ module _ (t : ℕ) where
   pub returns-2 : lts.Need-returns-2 calls (branch-at t) branch.Post
   returns-2 c = let on = c .before .before .before .before .before .before in let first = first-of on in
       let bad = rw (c .enum-told2 .given .1) at (c .before .before .branch .ensures) in
-      no-rest (first-read first) (goes-on on) bad
+      (no-rest (first-read first) (goes-on on) (bad .0), bad .1)
 
   pub returns-3 : lts.Need-returns-3 calls (branch-at t) branch.Post
   returns-3 c = let rest = c .before .before .before in let h = rest-read rest in

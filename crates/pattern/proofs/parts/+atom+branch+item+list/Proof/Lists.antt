@@ -222,7 +222,7 @@ module _ (t : ℕ) where
   pub returns : lts.Need-returns calls (list-at t) list.Post Inv-loop μ-loop
   returns c = let past = c .before .before .before in let head = head-of past in
       let bad = rw (c .enum-told2 .given .1) at (c .before .before .branch2 .ensures) in
-      no-next (so-far head) (head .loop .inv .bar) (past .past .ensures) bad
+      (no-next (so-far head) (head .loop .inv .bar) (past .past .ensures) (bad .0), bad .1)
 
   pub enum-known-e : lts.Need-enum-known-e calls (list-at t) list.Post Inv-loop μ-loop
   enum-known-e c = search needs
@@ -267,7 +267,7 @@ module _ (t : ℕ) where
   pub returns-3 : lts.Need-returns-3 calls (list-at t) list.Post Inv-loop μ-loop
   returns-3 c = let called = c .before .before in
       let bad = rw (c .enum-told .given .1) at (called .branch .ensures) in
-      list-first-fails (entry-within (called .before .before .before .before .before) .inside) bad
+      (list-first-fails (entry-within (called .before .before .before .before .before) .inside) (bad .0), bad .1)
 
   pub returns-4 : lts.Need-returns-4 calls (list-at t) list.Post Inv-loop μ-loop
   returns-4 c = let h = lone-read (c .before .before .before) in

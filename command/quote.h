@@ -1,0 +1,27 @@
+/* How bytes and numbers are shown. */
+#ifndef QUOTE_H
+#define QUOTE_H
+
+#include <stddef.h>
+#include <stdint.h>
+#include <stdio.h>
+
+#include "shared.h"
+
+/* The least width in which everything can be quoted, shortened if need be. */
+#define QUOTE_LEAST_WIDTH 20
+
+/* Prints a text with the bytes escaped that do not print. */
+void print_escaped(FILE *stream, const char *text);
+
+/*
+ * Puts bytes between quotes into `shown`, which has room for `width` characters, and says how many it took; no 0 is put behind them. What
+ * does not fit loses its middle: "its first bytes" ... "and its last".
+ */
+size_t quote(struct bytes bytes, size_t width, char *shown);
+
+/* Puts the digits of a number into `shown`, which has room for NUMBER_MOST characters, and says how many. */
+size_t put_number(uint64_t number, char *shown);
+#define NUMBER_MOST 20
+
+#endif

@@ -1,0 +1,64 @@
+#include "shared.h"
+
+#include <errno.h>
+#include <fcntl.h>
+#include <inttypes.h>
+#include <signal.h>
+#include <stdio.h>
+#include <stdlib.h>
+#include <string.h>
+#include <unistd.h>
+
+#include "quote.h"
+
+static int coloured = 0;
+
+void stop(int status, const char *subject, const char *what) {
+    fputs("dimmhalt: ", stderr);
+    print_escaped(stderr, subject);
+    fprintf(stderr, ": %s\n", what);
+    exit(status);
+}
+
+void stop_at_answer(const char *call, uint64_t number, uint64_t value, uint64_t flag) {
+    fprintf(stderr, "dimmhalt: internal: %s answered %" PRIu64, call, number);
+    fprintf(stderr, " with value %" PRIu64 " and flag %" PRIu64 ", which cannot be\n", value, flag);
+    exit(STATUS_INTERNAL);
+}
+
+/* A standard stream that is closed is opened the wrong way round: no file takes its number, and using it still fails. */
+static void fill_closed_stream(int stream) {
+    if (fcntl(stream, F_GETFD) != -1 || errno != EBADF) return;
+    if (open("/dev/null", stream == STDIN_FILENO ? O_WRONLY : O_RDONLY) != stream) _exit(STATUS_INPUT_OUTPUT);
+}
+
+static void check_output(void) {
+    int failed = ferror(stdout);
+    if (fclose(stdout) == 0 && !failed) return;
+    fputs("dimmhalt: standard output: not all could be written\n", stderr);
+    _exit(STATUS_INPUT_OUTPUT);
+}
+
+static int wants_colour(void) {
+    const char *no_colour = getenv("NO_COLOR"), *terminal = getenv("TERM");
+    if (no_colour != NULL && no_colour[0] != '\0') return 0;
+    return isatty(STDOUT_FILENO) && terminal != NULL && strcmp(terminal, "dumb") != 0;
+}
+
+void prepare_streams(void) {
+    for (int stream = STDIN_FILENO; stream <= STDERR_FILENO; stream++) fill_closed_stream(stream);
+    signal(SIGPIPE, SIG_IGN); /* output that none reads, or past the limit of a file, fails as other output does */
+    signal(SIGXFSZ, SIG_IGN);
+    if (atexit(check_output) != 0) stop(STATUS_INTERNAL, "internal", "no handler for the exit could be set");
+    coloured = wants_colour();
+}
+
+void parse_call(const struct argp *argp, unsigned flags, int count, char **words, void *input) {
+    error_t failed = argp_parse(argp, count, words, flags, NULL, input);
+    if (failed != 0) stop(STATUS_INTERNAL, "internal", strerror(failed));
+}
+
+const char *switch_to(enum paint paint) {
+    static const char *const codes[] = {"\033[0m", "\033[2m", "\033[1;32m", "\033[1;33m", "\033[1;31m"};
+    return coloured ? codes[paint] : "";
+}

@@ -1,0 +1,80 @@
+#include "words.h"
+
+#include <stdio.h>
+
+#include "dimmhalt.h"
+#include "quote.h"
+
+#define GROUPED_MOST (NUMBER_MOST + NUMBER_MOST / 3 + 1) /* the digits, a comma for each three of them, and a 0 */
+
+/* A number with a comma before each three digits, at the end of `room`. */
+static const char *grouped(uint64_t number, char room[GROUPED_MOST]) {
+    char *at = room + GROUPED_MOST - 1;
+    *at = '\0';
+    for (int digits = 0; number > 0 || digits == 0; digits++) {
+        if (digits > 0 && digits % 3 == 0) *--at = ',';
+        *--at = (char)('0' + number % 10);
+        number /= 10;
+    }
+    return at;
+}
+
+void say_painted(enum paint paint, const char *first, const char *rest) {
+    printf("%s%s%s: %s\n", switch_to(paint), first, switch_to(PLAIN), rest);
+}
+
+/* Says which line a byte stands in and which of its bytes it is, both counted from 1. */
+static void say_line(struct bytes bytes, uint64_t place) {
+    char line_room[GROUPED_MOST], byte_room[GROUPED_MOST];
+    uint64_t line = 1, line_start = 0;
+    for (uint64_t at = 0; at < place; at++) {
+        if (bytes.first[at] != '\n') continue;
+        line++;
+        line_start = at + 1;
+    }
+    printf("(line %s, byte %s of it)", grouped(line, line_room), grouped(place - line_start + 1, byte_room));
+}
+
+void say_where(struct bytes bytes, uint64_t place, const char *some) {
+    char shown[QUOTE_LEAST_WIDTH], room[GROUPED_MOST];
+    struct bytes wrong = {bytes.first + place, 1};
+    if (bytes.length == 0) {
+        puts("It is empty, and something is missing.");
+        return;
+    }
+    if (place == bytes.length) {
+        printf("All of it begins %s, but something is missing at its end.\n", some);
+        return;
+    }
+    if (place == 0) printf("Its first byte");
+    if (place == 1) printf("Its first byte begins %s; the byte after it", some);
+    if (place > 1) printf("Its first %s bytes begin %s; the byte after them", grouped(place, room), some);
+    printf(", %.*s, cannot stand there ", (int)quote(wrong, sizeof shown, shown), shown);
+    say_line(bytes, place);
+    puts(".");
+}
+
+/* The list of refusals says the limit of a report with a comma, which the preprocessor cannot put into it. */
+typedef char report_limit_is_as_it_is_said[DIMMHALT_TEXT_LIMIT == 4096 ? 1 : -1];
+
+#define RETURN_STATUS(number, status, refused, why) \
+    case number: return status;
+
+int status_of(uint32_t number, uint64_t flag) {
+    switch (number) {
+    case DIMMHALT_ANSWERED: return flag == 0 ? STATUS_ONE_TREE : STATUS_SEVERAL_TREES;
+    case DIMMHALT_NO_TREE: return STATUS_NO_TREE;
+    REFUSALS(RETURN_STATUS)
+    default: return STATUS_INTERNAL;
+    }
+}
+
+#define SAY_REFUSAL(number, status, refused, why) \
+    case number: say_painted(RED, "The " refused " is refused, " NUMBERED(number), why "."); break;
+
+void say_refusal(uint32_t number, uint64_t value, struct bytes pattern) {
+    switch (number) {
+    REFUSALS(SAY_REFUSAL)
+    }
+    if (number == DIMMHALT_NOT_A_PATTERN) say_where(pattern, value, "some pattern");
+}

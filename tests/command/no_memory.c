@@ -1,0 +1,18 @@
+/* No memory is to be had, and the call is never reached. */
+#include <errno.h>
+#include <stdlib.h>
+
+#include "dimmhalt.h"
+
+void *malloc(size_t size) {
+    (void)size;
+    errno = ENOMEM;
+    return NULL;
+}
+
+uint32_t dimmhalt_first_tree(const uint8_t *pattern, size_t pattern_length, const uint8_t *text, size_t text_length, uint64_t *cells,
+                             size_t cells_length, uint16_t *tree, size_t tree_length, uint64_t *out, size_t out_length) {
+    (void)pattern, (void)pattern_length, (void)text, (void)text_length, (void)cells, (void)cells_length;
+    (void)tree, (void)tree_length, (void)out, (void)out_length;
+    abort();
+}
