@@ -49,7 +49,7 @@ def hold_trees(holder):
         hold_impossible(holder, 0, value, 0, [a, b])
     words, outline, raw = answering(holder, 0, 4, 0, [64, a, b, CLOSES + 64])
     holder.hold_done("a tree of the report", words, 0, ONE_TREE)
-    holder.hold_done("its outline", outline, 0, ONE_TREE + '\nreport    "ab"\n64          "ab"\n')
+    holder.hold_done("its outline", outline, 0, ONE_TREE + '\nreport    "ab"\nmark 64     "ab"\n')
     holder.hold_done("its tokens", raw, 0, "ANSWER 0 4 0\nTREE o64 b97 b98 c64\n")
 
 
