@@ -17,17 +17,29 @@ static void take_pattern_itself(struct inputs *inputs, const char *pattern, stru
     inputs->pattern_itself = pattern;
 }
 
-static void take_file(struct inputs *inputs, const char *name, struct argp_state *state) {
-    if (inputs->file_count == 2) argp_error(state, "too many arguments");
-    inputs->files[inputs->file_count++] = name;
+static size_t count_files(const struct inputs *inputs) { return inputs->pattern_itself == NULL ? 2 : 1; }
+
+static void take_word(struct inputs *inputs, const char *word, struct argp_state *state) {
+    size_t most = inputs->may_have_behind ? 3 : 2;
+    if (inputs->word_count == most) argp_error(state, "too many arguments");
+    inputs->words[inputs->word_count++] = word;
 }
 
-static void check_inputs(const struct inputs *inputs, struct argp_state *state) {
-    size_t wanted = inputs->pattern_itself == NULL ? 2 : 1;
-    if (inputs->file_count > wanted) argp_error(state, "a pattern is given twice");
-    if (inputs->file_count + 1 == wanted) argp_error(state, "the report is missing");
-    if (inputs->file_count + 2 == wanted) argp_error(state, "pattern and report are missing");
-    if (wanted == 2 && is_standard_input(inputs->files[0]) && is_standard_input(inputs->files[1])) {
+/* Where the verb takes no word behind the files, one too many is a second pattern. */
+static void take_behind(struct inputs *inputs, struct argp_state *state) {
+    size_t files = count_files(inputs);
+    if (inputs->word_count <= files) return;
+    if (!inputs->may_have_behind) argp_error(state, "a pattern is given twice");
+    if (inputs->word_count > files + 1) argp_error(state, "too many arguments");
+    inputs->behind = inputs->words[files];
+}
+
+static void check_inputs(struct inputs *inputs, struct argp_state *state) {
+    size_t files = count_files(inputs);
+    take_behind(inputs, state);
+    if (inputs->word_count + 1 == files) argp_error(state, "the report is missing");
+    if (inputs->word_count + 2 == files) argp_error(state, "pattern and report are missing");
+    if (files == 2 && is_standard_input(inputs->words[0]) && is_standard_input(inputs->words[1])) {
         argp_error(state, "pattern and report cannot both be standard input");
     }
 }
@@ -35,7 +47,7 @@ static void check_inputs(const struct inputs *inputs, struct argp_state *state) 
 static error_t parse_input(int key, char *word, struct argp_state *state) {
     switch (key) {
     case 'e': take_pattern_itself(state->input, word, state); return 0;
-    case ARGP_KEY_ARG: take_file(state->input, word, state); return 0;
+    case ARGP_KEY_ARG: take_word(state->input, word, state); return 0;
     case ARGP_KEY_END: check_inputs(state->input, state); return 0;
     default: return ARGP_ERR_UNKNOWN;
     }
@@ -74,12 +86,12 @@ static struct bytes read_pattern_file(const char *name) {
 }
 
 void read_inputs(struct inputs *inputs) {
-    const char *report_file = inputs->files[inputs->file_count - 1];
+    const char *report_file = inputs->words[count_files(inputs) - 1];
     if (inputs->pattern_itself != NULL) {
         inputs->pattern.first = (const uint8_t *)inputs->pattern_itself;
         inputs->pattern.length = strlen(inputs->pattern_itself);
     } else {
-        inputs->pattern = read_pattern_file(inputs->files[0]);
+        inputs->pattern = read_pattern_file(inputs->words[0]);
     }
     inputs->report.first = report_room;
     inputs->report.length = read_file(report_file, report_room, sizeof report_room);

@@ -8,8 +8,6 @@
 
 #define LINE_WIDTH 100
 #define LABEL_WIDTH 10
-#define MARK_LABEL "mark "
-#define LABEL_MOST (sizeof MARK_LABEL + 1 + NUMBER_MOST)
 
 /* Up to so many marks in each other are indented by two spaces each; in deeper trees it is one, so that a line never runs out of width. */
 #define WIDE_STEPS 20
@@ -81,21 +79,12 @@ static void print_line(const char *label, size_t indent, struct bytes read) {
     fwrite(line.text, 1, line.used, stdout);
 }
 
-/* The label of a mark: its number has two characters at least. */
-static void put_label(char label[LABEL_MOST], uint16_t mark) {
-    size_t used = strlen(MARK_LABEL);
-    memcpy(label, MARK_LABEL, used);
-    if (mark < 10) label[used++] = ' ';
-    used += put_number(mark, label + used);
-    label[used] = '\0';
-}
-
 /* Prints the line of the part that a token opens, which so many marks stand around, its own among them. */
 static void print_part(const struct outline *outline, size_t at, size_t depth, size_t read) {
     size_t step = outline->deepest > WIDE_STEPS ? 1 : 2;
     struct bytes part = {outline->report.first + read, read_to[at] - read};
-    char label[LABEL_MOST];
-    put_label(label, outline->tree[at]);
+    char label[MARK_LABEL_MOST];
+    put_mark_label(outline->tree[at], label);
     print_line(label, depth * step, part);
 }
 

@@ -66,6 +66,14 @@ size_t put_number(uint64_t number, char *shown) {
     return (size_t)(digits + NUMBER_MOST - at);
 }
 
+void put_mark_label(uint64_t mark, char label[MARK_LABEL_MOST]) {
+    size_t used = sizeof MARK_LABEL - 1;
+    memcpy(label, MARK_LABEL, used);
+    if (mark < 10) label[used++] = ' ';
+    used += put_number(mark, label + used);
+    label[used] = '\0';
+}
+
 size_t quote(struct bytes bytes, size_t width, char *shown) {
     size_t taken, used = 1 + escape_first(bytes, width - 2, shown + 1, &taken);
     shown[0] = '"';

@@ -1,4 +1,4 @@
-/* How bytes and numbers are shown. */
+/* How bytes, numbers and marks are shown. */
 #ifndef QUOTE_H
 #define QUOTE_H
 
@@ -23,5 +23,10 @@ size_t quote(struct bytes bytes, size_t width, char *shown);
 /* Puts the digits of a number into `shown`, which has room for NUMBER_MOST characters, and says how many. */
 size_t put_number(uint64_t number, char *shown);
 #define NUMBER_MOST 20
+
+/* The label of a mark: its number has two characters at least, so that labels stand under each other. */
+#define MARK_LABEL "mark "
+#define MARK_LABEL_MOST (sizeof MARK_LABEL + 1 + NUMBER_MOST)
+void put_mark_label(uint64_t mark, char label[MARK_LABEL_MOST]);
 
 #endif

@@ -20,9 +20,13 @@ void stop(int status, const char *subject, const char *what) {
     exit(status);
 }
 
-void stop_at_answer(const char *call, uint64_t number, uint64_t value, uint64_t flag) {
+void stop_at_answer(const char *call, uint64_t number, const char *const *names, const uint64_t *figures, size_t count) {
     fprintf(stderr, "dimmhalt: internal: %s answered %" PRIu64, call, number);
-    fprintf(stderr, " with value %" PRIu64 " and flag %" PRIu64 ", which cannot be\n", value, flag);
+    for (size_t at = 0; at < count; at++) {
+        const char *joint = at == 0 ? " with" : at + 1 == count ? " and" : ",";
+        fprintf(stderr, "%s %s %" PRIu64, joint, names[at], figures[at]);
+    }
+    fputs(", which cannot be\n", stderr);
     exit(STATUS_INTERNAL);
 }
 

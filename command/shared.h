@@ -11,6 +11,7 @@
 #define STATUS_NO_TREE 2
 #define STATUS_PATTERN_REFUSED 3
 #define STATUS_REPORT_REFUSED 4
+#define STATUS_MARK_REFUSED 5
 #define STATUS_WRONG_CALL 64
 #define STATUS_INTERNAL 70
 #define STATUS_INPUT_OUTPUT 74
@@ -24,8 +25,9 @@ struct bytes {
 /* Ends the program with a line on standard error: `dimmhalt: SUBJECT: WHAT`. The subject may hold any bytes. */
 void stop(int status, const char *subject, const char *what) __attribute__((noreturn));
 
-/* Ends the program because a call answered what it never answers here. */
-void stop_at_answer(const char *call, uint64_t number, uint64_t value, uint64_t flag) __attribute__((noreturn));
+/* Ends the program because a call answered what it never answers here: its number, and figures that have these names, at least one. */
+void stop_at_answer(const char *call, uint64_t number, const char *const *names, const uint64_t *figures, size_t count)
+    __attribute__((noreturn));
 
 /* Looks after the standard streams, before anything else is done; output that cannot be written changes the exit status. */
 void prepare_streams(void);

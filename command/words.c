@@ -1,5 +1,7 @@
 #include "words.h"
 
+#include <inttypes.h>
+#include <stdarg.h>
 #include <stdio.h>
 
 #include "dimmhalt.h"
@@ -19,8 +21,13 @@ static const char *grouped(uint64_t number, char room[GROUPED_MOST]) {
     return at;
 }
 
-void say_painted(enum paint paint, const char *first, const char *rest) {
-    printf("%s%s%s: %s\n", switch_to(paint), first, switch_to(PLAIN), rest);
+void say_painted(enum paint paint, const char *first, const char *rest, ...) {
+    va_list words;
+    va_start(words, rest);
+    printf("%s%s%s: ", switch_to(paint), first, switch_to(PLAIN));
+    vprintf(rest, words);
+    putchar('\n');
+    va_end(words);
 }
 
 /* Says which line a byte stands in and which of its bytes it is, both counted from 1. */
@@ -64,6 +71,7 @@ int status_of(uint32_t number, uint64_t flag) {
     switch (number) {
     case DIMMHALT_ANSWERED: return flag == 0 ? STATUS_ONE_TREE : STATUS_SEVERAL_TREES;
     case DIMMHALT_NO_TREE: return STATUS_NO_TREE;
+    case DIMMHALT_NO_SUCH_MARK: return STATUS_MARK_REFUSED;
     REFUSALS(RETURN_STATUS)
     default: return STATUS_INTERNAL;
     }
@@ -77,4 +85,11 @@ void say_refusal(uint32_t number, uint64_t value, struct bytes pattern) {
     REFUSALS(SAY_REFUSAL)
     }
     if (number == DIMMHALT_NOT_A_PATTERN) say_where(pattern, value, "some pattern");
+}
+
+void say_no_such_mark(uint64_t marks) {
+    static const char refused[] = "The mark is refused, " NUMBERED(DIMMHALT_NO_SUCH_MARK);
+    if (marks == 0) say_painted(RED, refused, "the pattern has no marks.");
+    if (marks == 1) say_painted(RED, refused, "the pattern has mark 1 alone.");
+    if (marks > 1) say_painted(RED, refused, "the pattern has marks 1 to %" PRIu64 ".", marks);
 }

@@ -32,8 +32,11 @@ extern "C" {
 /* Lengths are 64 bits wide: elsewhere the archive cannot be called, and this does not compile. */
 typedef char dimmhalt_lengths_have_64_bits[sizeof(size_t) == 8 ? 1 : -1];
 
-/* The form of the calls. The first number changes where a program that calls them has to. */
-#define DIMMHALT_VERSION "1.0"
+/*
+ * The first number changes with the form of a call, where a program that calls it has to change; the second where a call is added or answers
+ * otherwise.
+ */
+#define DIMMHALT_VERSION "1.1"
 
 /* The numbers. */
 #define DIMMHALT_ANSWERED 0           /* the call was answered; of dimmhalt_first_tree: the report fits, and its first tree is written */
@@ -108,9 +111,12 @@ uint32_t dimmhalt_read(const uint8_t *pattern, size_t pattern_length, uint64_t *
 #define DIMMHALT_READ_FIGURES 3
 
 /*
- * How often a mark is opened in a row of tokens, which need not be a tree. Answers 0 or 10.
+ * How many turns of a mark read text. Of a tree: the turns of a repeated part, or the choices of a branch, that read at least one byte; a turn
+ * over nothing, as the only one of `+` may be, is not counted. Of any row of tokens, which need not be a tree: the openings of the mark,
+ * DIMMHALT_OPENS(mark), with a byte token, 256 to 511, between the opening and the next closing of the same mark, DIMMHALT_CLOSES(mark). An
+ * opening that never closes is not counted. Answers 0 or 10, in a time that grows in proportion to the length of the row.
  *
- *   figure 0, the count:   0: how many tokens of the row equal the mark.
+ *   figure 0, the count:   0: how many turns, or openings, these are.
  */
 uint32_t dimmhalt_turns(const uint16_t *row, size_t row_length, uint64_t mark, uint64_t *out, size_t out_length);
 #define DIMMHALT_TURNS_FIGURES 1

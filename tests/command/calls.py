@@ -4,9 +4,8 @@ import os
 
 from holding import ONE_TREE, REPORT_TOO_LONG, Holder, has
 
-TRY = "\nTry `dimmhalt judge --help' or `dimmhalt judge --usage' for more information.\n"
 TRY_ALONE = "\nTry `dimmhalt --help' or `dimmhalt --usage' for more information.\n"
-NUMBERS = """
+ANSWERS = """\
   0   0  the report fits the pattern, in exactly one way
   0   1  the report fits the pattern, but it could mean something else
   8   2  the report does not fit the pattern
@@ -16,22 +15,28 @@ NUMBERS = """
   6   3  pattern refused: more than 64 places of it read a byte
   7   3  pattern refused: it has more than 64 branches and repeated parts
   2   4  report refused: it has more than 4,096 bytes
+"""
+STATUSES = """\
      64  wrong call, or a file that cannot be opened
      70  an internal mistake
      74  input or output failed
 """
 
 
+def try_help(verb):
+    return f"\nTry `dimmhalt {verb} --help' or `dimmhalt {verb} --usage' for more information.\n"
+
+
 def hold_help(holder):
     for words in (["--help"], ["-?"], ["--help", "nothing"]):
-        out = has("Usage: dimmhalt [OPTION...] VERB ...\n", "\n  judge  ", "--version")
+        out = has("Usage: dimmhalt [OPTION...] VERB ...\n", "\n  judge  ", "\n  turns  ", "--version")
         holder.hold_done(f"help: {words}", holder.run(words), 0, out)
     for words in (["judge", "--help"], ["judge", "--tree", "a", "--help"], ["--", "judge", "--help"]):
         usages = ("Usage: dimmhalt judge [OPTION...] PATTERN REPORT\n", "  or:  dimmhalt judge [OPTION...] -e PATTERN REPORT\n")
-        holder.hold_done(f"help: {words}", holder.run(words), 0, has(*usages, "--tree", "--raw", NUMBERS))
+        holder.hold_done(f"help: {words}", holder.run(words), 0, has(*usages, "--tree", "--raw", "\n" + ANSWERS + STATUSES))
     holder.hold_done("usage", holder.run(["judge", "--usage"]), 0, has("Usage: dimmhalt judge", "[-e PATTERN]"))
     for words in (["--version"], ["-V"], ["judge", "--version"]):
-        holder.hold_done(f"version: {words}", holder.run(words), 0, "dimmhalt 1.0\n")
+        holder.hold_done(f"version: {words}", holder.run(words), 0, "dimmhalt 1.1\n")
 
 
 def hold_wrong_calls(holder):
@@ -69,7 +74,8 @@ def hold_wrong_judge_calls(holder):
         (["-t", "a", "b"], "invalid option -- 't'"),
         (["--tree=3", "a", "b"], "option '--tree' doesn't allow an argument"),
     ):
-        holder.hold_done(f"a wrong call: judge {words!r:.60}", holder.run(["judge", *words]), 64, "", f"dimmhalt judge: {said}{TRY}")
+        did = holder.run(["judge", *words])
+        holder.hold_done(f"a wrong call: judge {words!r:.60}", did, 64, "", f"dimmhalt judge: {said}{try_help('judge')}")
 
 
 def hold_order(holder):

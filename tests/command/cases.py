@@ -11,8 +11,10 @@ import sys
 from calls import hold_calls, hold_wrong_judge_calls
 from files import hold_files, hold_wrong_files
 from holding import Holder
+from mark import hold_mark, hold_wrong_turns_calls
 from outline import hold_deep, hold_outline, hold_small
 from streams import hold_colour, hold_streams
+from turns import hold_all_turns, hold_few_turns
 from words import hold_examples, hold_places, hold_words
 
 EXAMPLES = pathlib.Path(__file__).resolve().parent.parent.parent / "examples"
@@ -21,7 +23,9 @@ EXAMPLES = pathlib.Path(__file__).resolve().parent.parent.parent / "examples"
 def hold_all(holder):
     hold_words(holder, EXAMPLES)
     hold_outline(holder, EXAMPLES)
+    hold_all_turns(holder, EXAMPLES)
     hold_calls(holder)
+    hold_mark(holder)
     hold_files(holder)
     hold_streams(holder)
 
@@ -31,7 +35,9 @@ def hold_some(holder):
     hold_places(holder)
     hold_small(holder, EXAMPLES)
     hold_deep(holder, (64,))
+    hold_few_turns(holder, EXAMPLES)
     hold_wrong_judge_calls(holder)
+    hold_wrong_turns_calls(holder)
     hold_wrong_files(holder)
     hold_colour(holder)
 

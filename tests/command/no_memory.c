@@ -1,4 +1,4 @@
-/* No memory is to be had, and the call is never reached. */
+/* No memory is to be had, and the calls are never reached. */
 #include <errno.h>
 #include <stdlib.h>
 
@@ -14,5 +14,15 @@ uint32_t dimmhalt_first_tree(const uint8_t *pattern, size_t pattern_length, cons
                              size_t cells_length, uint16_t *tree, size_t tree_length, uint64_t *out, size_t out_length) {
     (void)pattern, (void)pattern_length, (void)text, (void)text_length, (void)cells, (void)cells_length;
     (void)tree, (void)tree_length, (void)out, (void)out_length;
+    abort();
+}
+
+uint32_t dimmhalt_read(const uint8_t *pattern, size_t pattern_length, uint64_t *out, size_t out_length) {
+    (void)pattern, (void)pattern_length, (void)out, (void)out_length;
+    abort();
+}
+
+uint32_t dimmhalt_turns(const uint16_t *row, size_t row_length, uint64_t mark, uint64_t *out, size_t out_length) {
+    (void)row, (void)row_length, (void)mark, (void)out, (void)out_length;
     abort();
 }

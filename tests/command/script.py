@@ -13,6 +13,7 @@ import threading
 
 from holding import ONE_TREE, Holder, has, one_line
 from streams import closing
+from turns import listed, no_mark
 
 TOP = pathlib.Path(__file__).resolve().parent.parent.parent
 PROVING = "dimmhalt: proving the calls; the first time this takes some minutes\n"
@@ -104,10 +105,13 @@ def hold_passing_on(copy):
     copy.words = through
     copy.hold_done("an empty word", copy.call([""]), 64, "", has('dimmhalt: there is no verb ""\n'))
     copy.hold_done("no words", copy.call([]), 64, "", has("Usage: dimmhalt [OPTION...] VERB ...\n"))
-    copy.hold_done("the version", copy.call(["--version"]), 0, "dimmhalt 1.0\n")
+    copy.hold_done("the version", copy.call(["--version"]), 0, "dimmhalt 1.1\n")
     copy.hold_done("a wrong file", copy.call(["judge", "nothing", "nothing"]), 64, "", "dimmhalt: nothing: No such file or directory\n")
     several = copy.call(JUDGED, b"a", changes={"DIMMHALT_ANSWER": "0 1 1 353"})
     copy.hold("a status", several.status, 1)
+    one_mark = {"DIMMHALT_READ_ANSWER": "0 0 1 1", "DIMMHALT_TURNS_ANSWER": "0 1"}
+    copy.hold_done("turns", copy.call(["turns", "-e", "a", "-"], b"a", changes=one_mark), 0, ONE_TREE + listed([(1, 1)]))
+    copy.hold_done("a refused mark", copy.call(["turns", "-e", "a", "-", "2"], b"a", changes=one_mark), 5, no_mark("mark 1 alone"))
 
 
 def hold_streams_of_script(copy):

@@ -6,6 +6,7 @@ import resource
 import subprocess
 
 from holding import NO_TREE, ONE_TREE, SEVERAL, TOO_DEEP
+from turns import OF_FIRST, no_mark
 
 LOST = "dimmhalt: standard output: not all could be written\n"
 DIM, PLAIN, GREEN, YELLOW, RED = "\033[2m", "\033[0m", "\033[1;32m", "\033[1;33m", "\033[1;31m"
@@ -23,11 +24,13 @@ def closing(*streams):
 
 def hold_lost_output(holder):
     """Closed, full, or a pipe that none reads: 74, whatever was to be said."""
-    judged = ["judge", "-e", "a*", holder.file("report", "a" * 4000)]
+    report = holder.file("report", "a" * 4000)
+    judged, counted = ["judge", "-e", "a*", report], ["turns", "-e", "a*", report]
+    helps = ["--help"], ["judge", "--help"], ["turns", "--help"], ["--version"], ["--usage"]
     reader, writer = os.pipe()
     os.close(reader)
     with open("/dev/full", "wb") as full:
-        for words in (judged, [*judged, "--tree"], [*judged, "--raw"], ["--help"], ["judge", "--help"], ["--version"], ["--usage"]):
+        for words in (judged, [*judged, "--tree"], [*judged, "--raw"], counted, [*counted, "--raw"], [*counted, "2"], *helps):
             for what, others in (("full", {"stdout": full}), ("unread", {"stdout": writer}), ("closed", closing(1))):
                 did = holder.run(words, **others)
                 holder.hold(f"a {what} output: {words[0]} {words[-1]}", [did.status, did.err], [74, LOST.encode()])
@@ -113,9 +116,24 @@ def hold_colour_of_words(holder):
     holder.hold("raw lines are never painted", raw, (0, "ANSWER 0 3 0\nTREE o1 b98 c1\n"))
 
 
+def hold_colour_of_turns(holder):
+    """Of the counts the marks are painted, as in an outline."""
+    terminal = {"TERM": "xterm"}
+    counted = ["turns", "-e", "a*b*b*", holder.file("report", "abb")]
+    first, rest = OF_FIRST.split(":", 1)
+    painted = f"{YELLOW}{first}{PLAIN}:{rest}\nTurns that read text:\n"
+    painted += "".join(f"{DIM}mark  {mark}{PLAIN}     {count}\n" for mark, count in enumerate((1, 2, 0), 1))
+    holder.hold("painted counts", on_terminal(holder, counted, terminal), (1, painted))
+    first, rest = no_mark("marks 1 to 3").split(":", 1)
+    holder.hold("a painted refusal of a mark", on_terminal(holder, [*counted, "4"], terminal), (5, f"{RED}{first}{PLAIN}:{rest}"))
+    raw = on_terminal(holder, [*counted, "--raw"], terminal)
+    holder.hold("raw counts are never painted", raw, (1, "ANSWER 0 9 1\nTURNS 1 1\nTURNS 2 2\nTURNS 3 0\n"))
+
+
 def hold_streams(holder):
     hold_lost_output(holder)
     hold_limited_output(holder)
     hold_closed(holder)
     hold_colour(holder)
     hold_colour_of_words(holder)
+    hold_colour_of_turns(holder)

@@ -5,23 +5,35 @@
 
 import sys
 
-from holding import ONE_TREE, Holder
+from holding import ONE_TREE, PATTERN_TOO_LONG, Holder
+from turns import NO_MARKS, listed, no_mark
 
 OPENS, CLOSES, BYTE = 0, 128, 256
+FIGURES = {"first_tree": ("value", "flag"), "read": ("value", "positions", "marks"), "turns": ("count",)}
+VARIABLES = {"first_tree": "DIMMHALT_ANSWER", "read": "DIMMHALT_READ_ANSWER", "turns": "DIMMHALT_TURNS_ANSWER"}
 
 
-def said(number, value, flag):
-    return f"dimmhalt: internal: dimmhalt_first_tree answered {number} with value {value} and flag {flag}, which cannot be\n"
+def said(call, number, *figures):
+    """The line for an answer that cannot be."""
+    named = [f"{name} {figure}" for name, figure in zip(FIGURES[call], figures, strict=True)]
+    joined = " and ".join([", ".join(named[:-1]), named[-1]] if len(named) > 1 else named)
+    return f"dimmhalt: internal: dimmhalt_{call} answered {number} with {joined}, which cannot be\n"
 
 
-def answering(holder, number, value, flag, tree=(), report=b"ab"):
-    answer = " ".join(map(str, (number, value, flag, *tree)))
-    return [holder.run(["judge", "-e", "abc", "-", *option], report, {"DIMMHALT_ANSWER": answer}) for option in ([], ["--tree"], ["--raw"])]
+def answering(holder, runs, report, **answers):
+    """What each run does where the calls answer so: number, figures, and what else."""
+    environment = {VARIABLES[call]: " ".join(map(str, answer)) for call, answer in answers.items()}
+    return [holder.run([verb, "-e", "abc", "-", *words], report, environment) for verb, *words in runs]
+
+
+JUDGING = (["judge"], ["judge", "--tree"], ["judge", "--raw"])
+COUNTING = (["turns"], ["turns", "--raw"], ["turns", "2"], ["turns", "--raw", "2"])
 
 
 def hold_impossible(holder, number, value, flag, tree=(), report=b"ab"):
-    for did in answering(holder, number, value, flag, tree, report):
-        holder.hold_done(f"an answer that cannot be: {number} {value} {flag}, {list(tree)!r:.80}", did, 70, "", said(number, value, flag))
+    for did in answering(holder, JUDGING + COUNTING, report, first_tree=(number, value, flag, *tree)):
+        what = f"an answer that cannot be: {number} {value} {flag}, {list(tree)!r:.80}"
+        holder.hold_done(what, did, 70, "", said("first_tree", number, value, flag))
 
 
 def hold_numbers(holder):
@@ -47,18 +59,69 @@ def hold_trees(holder):
     hold_impossible(holder, 0, 2, 2, [a, b])
     for value in (528385, 2**32, 2**64 - 1):
         hold_impossible(holder, 0, value, 0, [a, b])
-    words, outline, raw = answering(holder, 0, 4, 0, [64, a, b, CLOSES + 64])
+    words, outline, raw = answering(holder, JUDGING, b"ab", first_tree=(0, 4, 0, 64, a, b, CLOSES + 64))
     holder.hold_done("a tree of the report", words, 0, ONE_TREE)
     holder.hold_done("its outline", outline, 0, ONE_TREE + '\nreport    "ab"\nmark 64     "ab"\n')
     holder.hold_done("its tokens", raw, 0, "ANSWER 0 4 0\nTREE o64 b97 b98 c64\n")
+
+
+# A tree of the report ab, and a reading of a pattern with two marks.
+TREE = (0, 4, 0, 1, BYTE + 97, BYTE + 98, CLOSES + 1)
+READ = (0, 0, 2, 2)
+
+
+def hold_readings(holder):
+    """Answers of dimmhalt_read on a pattern that has a tree."""
+    wrong = [(number, 0, 0, 0) for number in (1, 2, 3, 4, 5, 6, 7, 8, 9, 10, 11, 99, 4294967295)]
+    wrong += [(4, 1, 0, 0), (0, 1, 2, 2), (0, 0, 65, 2), (0, 0, 2, 65), (0, 0, 2**64 - 1, 2), (0, 0, 2, 2**32), (0, 0, 2, 2**64 - 1)]
+    for answer in wrong:
+        for did in answering(holder, COUNTING, b"ab", first_tree=TREE, read=answer, turns=(0, 1, 0, 1)):
+            holder.hold_done(f"a reading that cannot be: {answer}", did, 70, "", said("read", *answer))
+    words, raw, *_ = answering(holder, COUNTING, b"ab", first_tree=TREE, read=(0, 0, 64, 64), turns=(0, 1, 0, 2))
+    lines = [(1, 1), (2, 2), *((mark, 0) for mark in range(3, 65))]
+    holder.hold_done("as many positions and marks as there can be", words, 0, ONE_TREE + listed(lines))
+    holder.hold("as many raw lines", raw.out.count(b"\n"), 65)
+
+
+def hold_counts(holder):
+    """Answers of dimmhalt_turns on a tree. Where one of them cannot be, nothing is printed of the others."""
+    wrong = [(number, 0) for number in (1, 8, 9, 10, 11, 99, 4294967295)] + [(10, 1), (0, 3), (0, 4), (0, 2**32), (0, 2**64 - 1)]
+    for answer in wrong:
+        for did in answering(holder, COUNTING, b"ab", first_tree=TREE, read=READ, turns=(0, 1, *answer)):
+            holder.hold_done(f"a count that cannot be: {answer}", did, 70, "", said("turns", *answer))
+        first, second = answering(holder, [["turns", "1"], ["turns", "2"]], b"ab", first_tree=TREE, read=READ, turns=(*answer, 0, 2))
+        holder.hold_done(f"a count of mark 1 that cannot be: {answer}", first, 70, "", said("turns", *answer))
+        holder.hold_done(f"it is not asked for: {answer}", second, 0, ONE_TREE + listed([(2, 2)]))
+    words, raw, one, raw_one = answering(holder, COUNTING, b"ab", first_tree=TREE, read=READ, turns=(0, 0, 0, 2))
+    holder.hold_done("counts that can be", words, 0, ONE_TREE + listed([(1, 0), (2, 2)]))
+    holder.hold_done("they, raw", raw, 0, "ANSWER 0 4 0\nTURNS 1 0\nTURNS 2 2\n")
+    holder.hold_done("one of them", one, 0, ONE_TREE + listed([(2, 2)]))
+    holder.hold_done("one of them, raw", raw_one, 0, "ANSWER 0 4 0\nTURNS 2 2\n")
+
+
+def hold_not_asked(holder):
+    """Where the report is refused the marks are not asked for, and where the mark is refused, no count."""
+    never = (99, 0, 0, 0)
+    for did in answering(holder, COUNTING[::2], b"ab", first_tree=(1, 0, 0), read=never, turns=never):
+        holder.hold_done("a refused pattern is not read again", did, 3, PATTERN_TOO_LONG)
+    for marks, has in ((0, "no marks"), (1, "mark 1 alone")):
+        words, raw = answering(holder, COUNTING[2:], b"ab", first_tree=TREE, read=(0, 0, 2, marks), turns=never)
+        holder.hold_done(f"a refused mark is not counted: {has}", words, 5, no_mark(has))
+        holder.hold_done(f"a refused mark is not counted: {has}, raw", raw, 5, "ANSWER 10 0 0\n")
+    words, raw = answering(holder, COUNTING[:2], b"ab", first_tree=TREE, read=(0, 0, 2, 0), turns=never)
+    holder.hold_done("no marks are not counted", words, 0, ONE_TREE + NO_MARKS)
+    holder.hold_done("no marks are not counted, raw", raw, 0, "ANSWER 0 4 0\n")
 
 
 def main(wrong_answers, no_memory):
     holder = Holder([wrong_answers])
     hold_numbers(holder)
     hold_trees(holder)
+    hold_readings(holder)
+    hold_counts(holder)
+    hold_not_asked(holder)
     without = Holder([no_memory])
-    for words in (["judge", "-e", "a", "/dev/null"], ["--help"], []):
+    for words in (["judge", "-e", "a", "/dev/null"], ["turns", "-e", "a", "/dev/null", "1"], ["--help"], []):
         holder.hold_done(f"no memory: {words}", without.run(words), 70, "", "dimmhalt: internal: Cannot allocate memory\n")
     return holder.tally("wrong answers, no memory")
 

@@ -3,11 +3,9 @@
 pub struct Chance(u64);
 
 impl Chance {
-    /// The numbers of one case of a run.
+    /// The numbers of one case of a run. The case is mixed first, so that its numbers are not those of the case before it from the second on.
     pub fn of_case(seed: u64, case: u64) -> Chance {
-        let mut chance = Chance(seed ^ case.wrapping_mul(0x9e37_79b9_7f4a_7c15));
-        chance.word();
-        chance
+        Chance(seed ^ Chance(case).word())
     }
 
     /// Any 64 bits.

@@ -1,10 +1,11 @@
 //! Which answers and edges the cases of the calls have met, and which a long run has to meet.
 
 use crate::batch::{Call, CALLS};
+use crate::cover_turns;
 use crate::make_calls::Case;
 use crate::totals::Totals;
 use reference::answers::{MARK_LIMIT, NESTING_LIMIT, PATTERN_LIMIT, POSITION_LIMIT, TEXT_LIMIT};
-use reference::lent::{turns, Left};
+use reference::lent::Left;
 
 /// The answers of a call: its numbers, of the first tree with the flag.
 fn answers_of(call: Call) -> &'static [&'static str] {
@@ -36,10 +37,9 @@ const LENT: &str = "lent to the first tree";
 const REFUSALS: &str = "several refusals";
 const LIMITS: &str = "at a limit";
 const WORK: &str = "the reference";
-const COUNTS: &str = "turns";
 
 /// The group of an edge, what it is, and whether a case is at it.
-type Edges = Vec<(&'static str, &'static str, bool)>;
+pub type Edges = Vec<(&'static str, &'static str, bool)>;
 
 /// Edges of the cells and the room.
 fn edges_of_lent(case: &Case, left: &Left) -> Edges {
@@ -101,23 +101,11 @@ fn edges_of_limits(case: &Case, call: Call, left: &Left) -> Edges {
     ]
 }
 
-fn edges_of_counts(case: &Case, left: &Left) -> Edges {
-    let (_, count) = turns(&case.row, case.mark);
-    let low_bits = case.mark as u16;
-    vec![
-        (COUNTS, "none", left.number == 0 && count == 0),
-        (COUNTS, "some", left.number == 0 && count > 0),
-        (COUNTS, "more than 65,535", left.number == 0 && count > 65_535),
-        (COUNTS, "no mark, but tokens like it", left.number == 10 && case.row.iter().any(|&token| u64::from(token) == case.mark)),
-        (COUNTS, "no mark, but its low bits are in the row", left.number == 10 && case.mark > 65_535 && case.row.contains(&low_bits)),
-    ]
-}
-
 /// The edges that a call of a case can be at.
 fn edges(case: &Case, call: Call, left: &Left) -> Edges {
     match call {
         Call::FirstTree => [edges_of_lent(case, left), edges_of_refusals(case, left)].concat(),
-        Call::Turns => edges_of_counts(case, left),
+        Call::Turns => cover_turns::edges(case, left),
         Call::Verdict | Call::Read => edges_of_limits(case, call, left),
     }
 }

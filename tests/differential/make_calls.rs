@@ -3,6 +3,7 @@
 use crate::batch::{Call, CALLS};
 use crate::chance::Chance;
 use crate::make::{self, repeated, wrapped, Shares};
+use crate::make_rows;
 use reference::answers::{whole, Answer, Effort, MARK_LIMIT, TEXT_LIMIT};
 use reference::lent::Lent;
 use reference::pattern::{self, Expression};
@@ -10,8 +11,10 @@ use reference::pattern::{self, Expression};
 /// Of a case that asks the reference for more, the verdict and the first tree are skipped.
 const EFFORT: Effort = Effort { steps: 3_000_000, tokens: 5_000 };
 
-/// How many of a hundred cases are refused on several grounds; and the shares among the others.
+/// How many of a hundred cases are refused on several grounds; how many of the others have trees with empty turns; and the shares among
+/// the rest.
 const SEVERAL_REFUSALS: usize = 8;
+const EMPTY_TURNS: usize = 2;
 const SHARES: Shares = Shares { limits: 10, long: 1 };
 
 pub struct Case {
@@ -36,7 +39,7 @@ impl Case {
     }
 
     /// The first tree, or an empty row where there is none.
-    fn first_row(&self) -> &[u16] {
+    pub fn first_row(&self) -> &[u16] {
         self.whole.as_ref().map_or(&[], |whole| &whole.row)
     }
 }
@@ -79,7 +82,7 @@ fn cells(chance: &mut Chance, count: usize) -> Vec<u64> {
 }
 
 /// Any numbers, or such as stand in trees.
-fn tokens(chance: &mut Chance, count: usize) -> Vec<u16> {
+pub fn tokens(chance: &mut Chance, count: usize) -> Vec<u16> {
     match chance.below(10) {
         0 => vec![u16::MAX; count],
         1 => vec![0; count],
@@ -123,7 +126,14 @@ fn lent_to_tree(chance: &mut Chance, case: &Case, is_short_of_cells: bool) -> Le
     Lent { cells: cells(chance, cell_count), room: tokens(chance, room_count), out: out(chance, Call::FirstTree) }
 }
 
-fn mark(chance: &mut Chance) -> u64 {
+/// A mark of the tree, where the token that is looked at is one of a mark.
+fn mark_of(chance: &mut Chance, tree: &[u16]) -> Option<u64> {
+    let token = if tree.is_empty() { None } else { Some(chance.pick(tree)) };
+    token.filter(|token| *token < 256).map(|token| u64::from(token % 128))
+}
+
+/// A mark, most often one of 1 to 64, and often one of the first tree.
+fn mark(chance: &mut Chance, tree: &[u16]) -> u64 {
     let inside = chance.between(1, 64) as u64;
     match chance.below(20) {
         0 => 0,
@@ -134,35 +144,24 @@ fn mark(chance: &mut Chance) -> u64 {
         5 => chance.word(),
         6 => 1,
         7 => 64,
-        8..=13 => chance.between(1, 4) as u64,
+        8..=10 => chance.between(1, 4) as u64,
+        11..=16 => mark_of(chance, tree).unwrap_or(inside),
         _ => inside,
     }
 }
 
-/// A row of which many tokens are the mark, or look like it in their low or high bits.
-fn near_the_mark(chance: &mut Chance, mark: u64, count: usize) -> Vec<u16> {
-    let mark = mark as u16;
-    let near = [mark, mark, mark, mark ^ 1, mark.wrapping_add(1), mark ^ 64, mark ^ 128, mark ^ 256, mark ^ 512, mark ^ (1 << 15), mark << 8, 0];
-    (0..count).map(|_| chance.pick(&near)).collect()
-}
-
-/// A row to count turns in: the first tree of the case, any tokens, or such as look like the mark.
-fn row(chance: &mut Chance, case: &Case) -> Vec<u16> {
-    let count = match chance.below(10) {
-        0 => 0,
-        1 => chance.between(500, 5000),
-        _ => chance.between(1, 60),
-    };
-    match chance.below(10) {
-        _ if chance.below(400) == 0 => vec![case.mark as u16; chance.between(65530, 70000)],
-        0..=2 => case.first_row().to_vec(),
-        3 | 4 => tokens(chance, count),
-        5 => vec![case.mark as u16; count],
-        _ => near_the_mark(chance, case.mark, count),
-    }
+/// A pattern and a text that fits it, often with turns or choices of one mark over nothing and over some bytes.
+fn empty_turns(chance: &mut Chance) -> (Vec<u8>, Vec<u8>) {
+    let pattern = chance.pick::<&[u8]>(&[b"((a*)+b)*", b"((a*|c)b)*", b"((a|())+b)+", b"((a?|b)+b?)*"]);
+    let pieces = chance.between(1, 6);
+    let text: Vec<&[u8]> = (0..pieces).map(|_| chance.pick::<&[u8]>(&[b"b", b"ab", b"aab"])).collect();
+    (pattern.to_vec(), text.concat())
 }
 
 fn pattern_and_text(chance: &mut Chance) -> (Vec<u8>, Vec<u8>) {
+    if chance.percent(EMPTY_TURNS) {
+        return empty_turns(chance);
+    }
     let case = make::case(chance, SHARES);
     (case.pattern, case.text)
 }
@@ -172,10 +171,11 @@ pub fn case(chance: &mut Chance) -> Case {
     let are_several = chance.percent(SEVERAL_REFUSALS);
     let (pattern, text) = if are_several { several_refusals(chance) } else { pattern_and_text(chance) };
     let (expression, whole) = (pattern::read(&pattern), whole(&pattern, &text, EFFORT).ok());
-    let mut case = Case { pattern, text, expression, whole, row: Vec::new(), mark: mark(chance), lent: Default::default() };
+    let mut case = Case { pattern, text, expression, whole, row: Vec::new(), mark: 0, lent: Default::default() };
     let is_short_of_cells = are_several && chance.percent(50);
     case.lent[Call::FirstTree as usize] = lent_to_tree(chance, &case, is_short_of_cells);
-    case.row = row(chance, &case);
+    case.mark = mark(chance, case.first_row());
+    case.row = make_rows::row(chance, case.first_row(), case.mark);
     for call in [Call::Read, Call::Turns] {
         case.lent[call as usize].out = out(chance, call);
     }

@@ -93,6 +93,7 @@ static void hold_readings(void)
     const uint16_t turn[] = {O(1), C(1)}, twice[] = {O(1), B('a'), C(1), O(1), B('a'), C(1)};
     const uint16_t inner[] = {O(1), O(2), B('a'), C(2), C(1)}, inner_twice[] = {O(1), O(2), B('a'), C(2), O(2), B('a'), C(2), C(1)};
     const uint16_t branch[] = {O(1), B('a'), C(1)}, desk[] = {O(1), B('a'), C(1), O(3), B('b'), C(3)};
+    const uint16_t rows[] = {O(1), O(2), B('r'), B('o'), B('w'), C(2), O(2), B('r'), B('o'), B('w'), C(2), C(1)};
     hold_reading("()", "", 0, new_row(0));
     hold_reading("a*", "", 0, new_row(0));
     hold_reading("()+", "", 0, bytes_of(turn, sizeof turn));
@@ -104,6 +105,8 @@ static void hold_readings(void)
     hold_reading("a|a", "a", 1, bytes_of(branch, sizeof branch));
     hold_reading("(a|())+", "a", 0, bytes_of(inner, sizeof inner));
     hold_reading("(a|ab)b?", "ab", 1, bytes_of(desk, sizeof desk));
+    hold_reading("((row)*)+", "", 0, bytes_of(turn, sizeof turn));
+    hold_reading("((row)*)+", "rowrow", 1, bytes_of(rows, sizeof rows));
 }
 
 static void hold_no_tree(const char *text, size_t place)

@@ -80,7 +80,7 @@ fn judged(expression: &pattern::Expression, text: &[u8], effort: Effort) -> Resu
 }
 
 /// Every row of the whole text in order, if they can be written in so many tokens.
-fn every_row(stretches: &mut Stretches, tokens: usize) -> Option<Vec<Row>> {
+pub fn every_row(stretches: &mut Stretches, tokens: usize) -> Option<Vec<Row>> {
     let rows = Trees::new(stretches, Every { left: tokens }).whole().ok()?;
     Some(rows.iter().cloned().collect())
 }

@@ -50,12 +50,24 @@ pub fn read_left(pattern: &[u8], lent: &Lent) -> Left {
     Left { number, lent: Lent { out: figured(&figures, &lent.out), ..Lent::default() } }
 }
 
+/// How many openings of the mark have a byte token between them and the next closing of the mark. Each closing ends a stretch of the row, and
+/// behind the last of them nothing is closed; an opening is counted exactly if it stands before the last byte token of its stretch.
+fn openings_with_text(row: &[u16], mark: u16) -> usize {
+    let stretches: Vec<&[u16]> = row.split(|&token| token == 128 + mark).collect();
+    let (_never_closed, closed) = stretches.split_last().expect("a row has at least one stretch");
+    let counted = |stretch: &&[u16]| {
+        let last_byte = stretch.iter().rposition(|token| (256..=511).contains(token)).unwrap_or(0);
+        stretch[..last_byte].iter().filter(|&&token| token == mark).count()
+    };
+    closed.iter().map(counted).sum()
+}
+
 /// Number and count of the turn count.
 pub fn turns(row: &[u16], mark: u64) -> (u32, usize) {
     if mark < 1 || mark > MARK_LIMIT as u64 {
         return (10, 0);
     }
-    (0, row.iter().filter(|&&token| u64::from(token) == mark).count())
+    (0, openings_with_text(row, mark as u16))
 }
 
 /// The turn count.

@@ -6,6 +6,7 @@ pub mod keepers;
 pub mod lent;
 pub mod pattern;
 pub mod self_test;
+mod self_test_turns;
 pub mod stretches;
 pub mod trees;
 

@@ -1,19 +1,20 @@
 //! The reference held to the rules' own examples, and its two shortcuts (completions of a beginning, how far a text gets) to plain search.
 
 use crate::answers::{answer, desk_answer, lines, read, verdict, whole, Effort};
-use crate::lent::{first_tree_left, read_left, turns, turns_left, verdict_left, Left, Lent};
+use crate::lent::{first_tree_left, read_left, turns_left, verdict_left, Left, Lent};
 use crate::pattern;
+use crate::self_test_turns;
 
-const EFFORT: Effort = Effort { steps: 50_000_000, tokens: 2_000_000 };
+pub const EFFORT: Effort = Effort { steps: 50_000_000, tokens: 2_000_000 };
 
 /// Counts what held and tells of what did not.
-struct Checks {
+pub struct Checks {
     passed: usize,
     failed: usize,
 }
 
 impl Checks {
-    fn same<T: PartialEq + std::fmt::Debug>(&mut self, what: &str, got: T, wanted: T) {
+    pub fn same<T: PartialEq + std::fmt::Debug>(&mut self, what: &str, got: T, wanted: T) {
         if got == wanted {
             self.passed += 1;
         } else {
@@ -172,7 +173,7 @@ fn figures(checks: &mut Checks) {
         checks.same("figures of a pattern", left, Left { number: 0, lent: Lent { out: wanted, ..Lent::default() } });
     }
     for (length, wanted) in [(0, vec![]), (1, vec![2]), (3, vec![2, 5, 5])] {
-        let left = turns_left(&[1, 129, 1, 129], 1, &lent(length));
+        let left = turns_left(&[1, 353, 129, 1, 353, 129], 1, &lent(length));
         checks.same("figures of the turn count", left, Left { number: 0, lent: Lent { out: wanted, ..Lent::default() } });
     }
     checks.same("a verdict has no figures", verdict_left(&two_trees), Left { number: 11, lent: Lent::default() });
@@ -195,20 +196,8 @@ fn patterns(checks: &mut Checks) {
     checks.same("64 positions and marks", read("a*".repeat(64).as_bytes()), (0, [0, 64, 64]));
 }
 
-fn counts(checks: &mut Checks) {
-    let row = [1, 353, 129, 1, 353, 129];
-    for (mark, count) in [(1, 2), (2, 0), (64, 0)] {
-        checks.same(&format!("turns of mark {mark}"), turns(&row, mark), (0, count));
-    }
-    for mark in [0, 65, 129, 353, 65537, u64::MAX] {
-        checks.same(&format!("turns of mark {mark}"), turns(&row, mark), (10, 0));
-    }
-    checks.same("turns in a row that is no tree", turns(&[64, 0, 192, 320, 65535, 64], 64), (0, 2));
-    checks.same("turns in an empty row", turns(&[], 1), (0, 0));
-}
-
 /// All rows of up to `longest` letters.
-fn rows_over(letters: &[u8], longest: usize) -> Vec<Vec<u8>> {
+pub fn rows_over<T: Copy>(letters: &[T], longest: usize) -> Vec<Vec<T>> {
     let mut rows = vec![Vec::new()];
     let mut from = 0;
     for _ in 0..longest {
@@ -259,7 +248,7 @@ pub fn run() -> bool {
     lent(&mut checks);
     figures(&mut checks);
     patterns(&mut checks);
-    counts(&mut checks);
+    self_test_turns::run(&mut checks);
     completions(&mut checks);
     reaches(&mut checks);
     println!("reference: {} passed, {} failed", checks.passed, checks.failed);

@@ -7,7 +7,6 @@ ghost use Rattle.meaning.specs.Promise.{Verdict};
 use pattern::read;
 use tree::first_tree::first_tree;
 use tree::outcome;
-use tree::turns;
 use verdict::verdict;
 
 // One figure, if `out` is as long.

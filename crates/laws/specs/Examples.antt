@@ -7,7 +7,8 @@ use Rattle.meaning.specs.Grammar.{any, only}
 use Rattle.meaning.specs.Tree.{erase}
 use Rattle.meaning.specs.Limits.{room-for}
 use Rattle.meaning.specs.ReadPattern.{nodes, kinds, args, binary, word}
-use Rattle.meaning.specs.Promise.{count, cleared, written}
+use Rattle.meaning.specs.Turns.{some-token, up-to-closing, turn-count}
+use Rattle.meaning.specs.Promise.{cleared, written}
 use Rattle.meaning.specs.Desk.{pattern-in, text-in, digits, answer-line, token, tokens, tree-line, desk-lines}
 
 -- (a|ab)b? and its row for ab: o1 a c1 o3 b c3
@@ -51,9 +52,33 @@ row-text : erase row ≡ 97 ∷ 98 ∷ []
 unfolding row erase
 row-text = refl
 
-row-turns : count 3 row ≡ 1
-unfolding row count
+row-turns : turn-count 3 row ≡ 1
+unfolding row turn-count some-token up-to-closing
 row-turns = refl
+
+-- o1 c1, the sole turn of ((row)*)+ on the empty text, reads nothing
+empty-turn : turn-count 1 (1 ∷ 129 ∷ []) ≡ 0
+unfolding turn-count some-token up-to-closing
+empty-turn = refl
+
+-- o1 o1 b97 c1 o1 b97, a row that no tree has: two openings before one closing, and one that never closes
+no-tree-turns : turn-count 1 (1 ∷ 1 ∷ 353 ∷ 129 ∷ 1 ∷ 353 ∷ []) ≡ 2
+unfolding turn-count some-token up-to-closing
+no-tree-turns = refl
+
+-- o1 c1 b0 c1: the next closing decides
+next-closing : turn-count 1 (1 ∷ 129 ∷ 256 ∷ 129 ∷ []) ≡ 0
+unfolding turn-count some-token up-to-closing
+next-closing = refl
+
+-- 255 and 512 are no byte tokens, 256 and 511 are
+no-byte-tokens : turn-count 1 (1 ∷ 255 ∷ 512 ∷ 129 ∷ []) ≡ 0
+unfolding turn-count some-token up-to-closing
+no-byte-tokens = refl
+
+byte-tokens : turn-count 1 (1 ∷ 256 ∷ 129 ∷ 1 ∷ 511 ∷ 129 ∷ []) ≡ 2
+unfolding turn-count some-token up-to-closing
+byte-tokens = refl
 
 -- the third and fourth readings to check reach the room
 room-none : room-for 1 0 ≡ 2

@@ -4,6 +4,7 @@ pub mod Grammar
 pub mod Tree
 pub mod Limits
 pub mod ReadPattern
+pub mod Turns
 pub mod Promise
 pub mod Desk
 pub mod Readings

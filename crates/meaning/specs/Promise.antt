@@ -1,16 +1,15 @@
 -- The promise of each call: which number, value, flag and contents of the lent rows may come of an input. One constructor for each line of
 -- the table of answers, with what says that no earlier line applies. Assumes nothing: these are definitions.
-use mathlib.Core.Bool.{cond}
-use mathlib.Core.List.{List, [], _∷_, _++_}
+use mathlib.Core.List.{List, _++_}
 use mathlib.Core.Logic.{_⊎_}
-use Prim.Native.Nat.{ℕ, _+_, _≤_, _<_}
-use lib.Dec.{eqb}
+use Prim.Native.Nat.{ℕ, _≤_, _<_}
 use lib.ListN.{length, drop, replicate}
 use Rattle.meaning.specs.Expression.{Re, marks, size}
 use Rattle.meaning.specs.Grammar.{Pattern, Viable, Longest}
 use Rattle.meaning.specs.Tree.{Tree, First, Other, Flag, NoTree, Begins}
 use Rattle.meaning.specs.Limits.{pattern-limit, text-limit, nesting-limit, position-limit, mark-limit, cells-for}
 use Rattle.meaning.specs.ReadPattern.{ReadPattern, read-pattern, no-parts}
+use Rattle.meaning.specs.Turns.{turn-count}
 
 -- the pattern is refused with this number and value
 pub data Refused (pat : List ℕ) : ℕ → ℕ → Type 0 where
@@ -62,15 +61,10 @@ pub data Answered (pat text cells room : List ℕ) : ℕ → ℕ → ℕ → Lis
   judged : {e : Re} {n v f : ℕ} {room′ : List ℕ} → Ready pat text cells → Accepted pat e → Judged e text room n v f room′
       → Answered pat text cells room n v f (cleared text cells) room′
 
--- how many tokens of a row equal h
-unfoldable pub count : ℕ → List ℕ → ℕ
-count h [] = 0
-count h (t ∷ row) = cond (eqb t h) 1 0 + count h row
-
 -- the turn count: number and count
 pub data Counted (row : List ℕ) (mark : ℕ) : ℕ → ℕ → Type 0 where
   no-mark : (mark < 1) ⊎ (mark-limit < mark) → Counted row mark 10 0
-  counted : 1 ≤ mark → mark ≤ mark-limit → Counted row mark 0 (count mark row)
+  counted : 1 ≤ mark → mark ≤ mark-limit → Counted row mark 0 (turn-count mark row)
 
 -- none, one or more trees
 pub data Trees (e : Re) (text : List ℕ) : ℕ → Type 0 where

@@ -6,6 +6,8 @@ pub mod Complete
 pub mod Sound
 pub mod Walks
 pub mod Erased
+pub mod Paired
+pub mod Turns
 pub mod Order
 pub mod Row
 pub mod Tests

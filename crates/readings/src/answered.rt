@@ -6,9 +6,9 @@ use tree::outcome::Outcome;
 use tree::outcome::flag;
 use tree::outcome::number as numbered;
 use tree::outcome::value;
-use tree::turns::TurnCount;
-use tree::turns::count;
-use tree::turns::number as turns_number;
+use turns::TurnCount;
+use turns::count;
+use turns::number as turns_number;
 
 // A row of more tokens is not printed.
 pub const SHORT: usize = 16;

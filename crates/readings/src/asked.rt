@@ -11,7 +11,9 @@ use lines::print::word;
 use rows::Row;
 use rows::row_of;
 use tree::first_tree::first_tree;
-use tree::turns::turns;
+use tree::outcome::number as number_of;
+use tree::outcome::value;
+use turns::turns;
 
 // Bytes of the longest pattern or text, and what is lent unless a line says otherwise: enough for `a*` and 4,096 letters.
 const LONG: usize = 8192;
@@ -144,12 +146,40 @@ pub fn lent(pattern: &[u8], text: &[u8], cells: usize, tokens: usize) {
     judged(pattern, text, cells, tokens);
 }
 
-// The turns of a mark in a row with the numbers 0 and 65 once, 1 twice, 64 three times, 1 closed and a byte 64.
-pub fn turned(mark: usize) {
-    let row = [0u16, 1, 64, 1, 65, 129, 64, 64, 320];
+// The turns of a mark in a row that no tree has.
+pub fn row_turned(mark: usize) {
+    let row = [1u16, 1, 353, 129, 1, 353];
     amount(b"turns of mark ", mark);
-    say(b"\n");
+    say(b" in\n");
+    line_two(&row, row.len());
     counted(turns(&row, mark));
+}
+
+// In the first n tokens.
+fn turns_in(row: &[u16], n: usize, mark: usize) {
+    if n <= row.len() {
+        counted(turns(&row[..n], mark));
+    }
+}
+
+fn tree_turned(pattern: &[u8], text: &[u8], mark: usize, cells: &mut [u64], room: &mut [u16]) {
+    let got = first_tree(pattern, text, cells, room);
+    if number_of(got) == 0 {
+        let length = value(got);
+        line_two(room, length);
+        turns_in(room, length, mark);
+    }
+}
+
+// The turns of a mark in the first tree.
+pub fn turned(pattern: &[u8], text: &[u8], mark: usize) {
+    amount(b"turns of mark ", mark);
+    labelled(b" of ", pattern);
+    labelled(b" on ", text);
+    say(b"\n");
+    let mut cells = [0u64; CELLS];
+    let mut room = [0u16; TOKENS];
+    tree_turned(pattern, text, mark, &mut cells, &mut room);
 }
 
 // The whole desk on an input.

@@ -8,6 +8,7 @@ use asked::grown;
 use asked::lent;
 use asked::letters;
 use asked::plain;
+use asked::row_turned;
 use asked::turned;
 
 // With the length of the longest beginning that begins a pattern.
@@ -59,12 +60,21 @@ fn loans() {
     lent(b"a+", b"aa", 2, 6);
 }
 
-// The turn count of a row.
+// The turn count: a turn that reads nothing is not counted, nor is an opening that never closes.
 fn turn_counts() {
-    turned(0);
-    turned(1);
-    turned(64);
-    turned(65);
+    turned(b"((row)*)+", b"", 1);
+    turned(b"((row)*)+", b"rowrow", 1);
+    turned(b"((row)*)+", b"rowrow", 2);
+    turned(b"()+", b"", 1);
+    row_turned(1);
+    row_turned(2);
+}
+
+// The marks at both ends, and beyond them.
+fn no_marks() {
+    row_turned(0);
+    row_turned(64);
+    row_turned(65);
 }
 
 // Lines of a row, and of none: a number that the printer would write otherwise, or that is past its bits; a line that breaks off or goes on.
@@ -89,6 +99,7 @@ fn main() {
     marks();
     loans();
     turn_counts();
+    no_marks();
     desk(b"(a|ab)b?\nab");
     lines_back();
 }

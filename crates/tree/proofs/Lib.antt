@@ -1,5 +1,4 @@
 -- The mathematics of the tree part. Each module is one subject.
-pub mod Counts
 pub mod Answers
 pub mod Settled
 pub mod Meaning

@@ -7,12 +7,16 @@ use native.Mathlib.Omega.{arith}
 use lib.ListN.{length, take, drop}
 use lib.Seq.{take-append-seam}
 use Rattle.meaning.specs.Expression.{Re, marks}
-use Rattle.meaning.specs.Limits.{room-for}
+use Rattle.meaning.specs.Grammar.{Bytes}
+use Rattle.meaning.specs.Limits.{mark-limit, room-for}
 use Rattle.meaning.specs.Promise.{Accepted, Ready, Judged, small-room, Answered, few-cells}
 use Rattle.meaning.specs.Tree.{First, Other, Flag, another, alone, NoTree, erase}
+use Rattle.meaning.specs.Turns.{turn-count}
 use Rattle.grammar.specs.ReadPromise.{accepted-one, refused-accepted}
 use Rattle.positions.specs.Erased.{erases}
+use Rattle.positions.specs.Paired.{with-text}
 use Rattle.positions.specs.Room.{row-length}
+use Rattle.positions.specs.Turns.{texts, tree-count}
 
 -- an answer for a pattern that is accepted, where enough is lent
 pub judged-of : {pat text cells room cells′ room′ : List ℕ} {e : Re} {n v f : ℕ} → Answered pat text cells room n v f cells′ room′ → Ready pat text cells → Accepted pat e
@@ -50,6 +54,10 @@ module _ {pat text cells room cells′ room′ : List ℕ} {e : Re} {n v f : ℕ
   -- and its marks erased it is the text
   pub row-erases-to-text : n ≡ 0 → erase (take v room′) ≡ text
   row-erases-to-text z = erases (omega (arith, a .few-marks)) (row-is-first z .tree)
+
+  -- and the turn count of a mark in it is how many turns of the mark read text
+  pub turns-that-read-text : {h : ℕ} (z : n ≡ 0) → Bytes text → h ≤ mark-limit → turn-count h (take v room′) ≡ with-text (texts h (row-is-first z .tree))
+  turns-that-read-text z b l = tree-count (omega arith) (omega (arith, a .few-marks)) b (row-is-first z .tree)
 
   -- the flag says exactly whether there is another tree
   pub flag-is-exact : n ≡ 0 → (f ≡ 1) ↔ Other e text

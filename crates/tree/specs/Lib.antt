@@ -1,5 +1,4 @@
 -- The numbers that the answers stand for, and what the contracts cite.
-pub mod Turns
 pub mod Outcome
 pub mod Search
 pub mod Judge

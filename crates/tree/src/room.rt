@@ -4,7 +4,9 @@ ghost use Prim.Native.Nat.{_≤_};
 ghost use Rattle.meaning.specs.Limits.{text-limit, mark-limit, cells-for, room-for};
 ghost use Rattle.tree.specs.Lending.{Enough};
 use crate::search::TEXT_LIMIT;
-use crate::turns::MARK_LIMIT;
+
+// A pattern has no more marks.
+const MARK_LIMIT: usize = 64;
 
 // The work cells that a text of n bytes asks for.
 fn cells_for(n: usize) -> usize

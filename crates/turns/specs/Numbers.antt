@@ -1,6 +1,6 @@
 -- The number and the count that an answer of the turn count stands for. Assumes nothing: these are definitions.
 use Prim.Native.Nat.{ℕ}
-use Rattle.tree.specs.declared.turns.TurnCount.{TurnCount}
+use Rattle.turns.specs.declared.TurnCount.{TurnCount}
 
 abbrev pub number-of : TurnCount → ℕ
 number-of (TurnCount.Count c) = 0

@@ -1,0 +1,3 @@
+-- Laws of the turn count.
+pub mod Counts
+pub mod Tokens
