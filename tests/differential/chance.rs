@@ -3,7 +3,7 @@
 pub struct Chance(u64);
 
 impl Chance {
-    /// The numbers of one case of a run. The case is mixed first, so that its numbers are not those of the case before it from the second on.
+    /// The numbers of one case of a run. The case is mixed first, so that its numbers are no shifted copy of another case's.
     pub fn of_case(seed: u64, case: u64) -> Chance {
         Chance(seed ^ Chance(case).word())
     }
