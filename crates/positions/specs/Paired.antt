@@ -2,7 +2,7 @@
 use mathlib.Core.Path.{_≡_, refl, sym, _∙_, ap}
 use mathlib.Core.Bool.{Bool, true, false, _||_, cond}
 use mathlib.Core.List.{List, [], _∷_, _++_, append-assoc, cons≢nil, nil≢cons, head-eq-of-cons-eq, tail-eq-of-cons-eq}
-use Prim.Native.Nat.{ℕ, suc, _+_, _-_, _≤_}
+use Prim.Native.Nat.{ℕ, suc, _+_, _-_, _≤_, _<_}
 use native.Mathlib.Omega.{arith}
 use native.Mathlib.Nat.{zero-add}
 use lib.Dec.{eqb, ltb}
@@ -15,6 +15,16 @@ use Rattle.grammar.specs.ByteRow.{bytes-left, bytes-right}
 use Rattle.bits.specs.Tally.{one}
 use Rattle.bits.specs.Truth.{or-right}
 use Rattle.positions.specs.Erased.{erase-mark, erase-append}
+
+-- which tokens are byte tokens
+pub below-bytes : (t : ℕ) → t < 256 → is-byte t ≡ false
+below-bytes t l = rw (lt-leb 256 t l)
+
+pub above-bytes : (t : ℕ) → 511 < t → is-byte t ≡ false
+above-bytes t l = rw (le-leb 256 t (omega arith), lt-leb t 511 l)
+
+pub a-byte : (t : ℕ) → 256 ≤ t → t ≤ 511 → is-byte t ≡ true
+a-byte t l l′ = rw (le-leb 256 t l, le-leb t 511 l′)
 
 -- no token of the row opens or closes h
 pub data Clear (h : ℕ) : List ℕ → Type 0 where
@@ -170,10 +180,10 @@ reads-text (t ∷ row) b = go (reads-text row) (ltb t 256) refl b
   where
     go : (Bytes (erase row) → some-token is-byte row ≡ has-text (erase row)) → (c : Bool) → ltb t 256 ≡ c → Bytes (cond c (erase row) ((t - 256) ∷ erase row))
         → (is-byte t || some-token is-byte row) ≡ has-text (cond c (erase row) ((t - 256) ∷ erase row))
-    go f true e b = rw (lt-leb 256 t (ltb-true t 256 e)) (f b)
+    go f true e b = rw (below-bytes t (ltb-true t 256 e)) (f b)
     go f false e (byte l b) =
         let low = ltb-false t 256 e in
-        rw (le-leb 256 t low, le-leb t 511 (omega arith))
+        rw (a-byte t low (omega arith))
 
 erase-turn-before : (h : ℕ) (inner row : List ℕ) → h ≤ 127 → erase (turn-before h inner row) ≡ erase inner ++ erase row
 erase-turn-before h inner row l =

@@ -71,7 +71,7 @@ fn turn_counts() {
 }
 
 // The marks at both ends, and beyond them.
-fn no_marks() {
+fn outer_marks() {
     row_turned(0);
     row_turned(64);
     row_turned(65);
@@ -99,7 +99,7 @@ fn main() {
     marks();
     loans();
     turn_counts();
-    no_marks();
+    outer_marks();
     desk(b"(a|ab)b?\nab");
     lines_back();
 }

@@ -5,20 +5,11 @@ use mathlib.Core.Logic.{_⊎_, inl, inr}
 use mathlib.Core.List.{List, [], _∷_}
 use Prim.Native.Nat.{ℕ, _+_, _≤_, _<_}
 use native.Mathlib.Omega.{arith}
-use borrow.Author.Tests.{le-leb, lt-leb, eq-eqb, ne-eqb}
+use borrow.Author.Tests.{eq-eqb, ne-eqb}
 use Rattle.meaning.specs.Turns.{opens, closes, is-byte, some-token, up-to-closing, is-counted, turn-count}
-use Rattle.positions.specs.Paired.{turn-count-other}
+use Rattle.positions.specs.Paired.{below-bytes, above-bytes, a-byte, turn-count-other}
 use Rattle.turns.specs.declared.Behind.{Behind}
 use Rattle.turns.specs.Behind.{Stands}
-
-below-bytes : (t : ℕ) → t < 256 → is-byte t ≡ false
-below-bytes t l = rw (lt-leb 256 t l)
-
-above-bytes : (t : ℕ) → 511 < t → is-byte t ≡ false
-above-bytes t l = rw (le-leb 256 t (omega arith), lt-leb t 511 l)
-
-a-byte : (t : ℕ) → 256 ≤ t → t ≤ 511 → is-byte t ≡ true
-a-byte t l l′ = rw (le-leb 256 t l, le-leb t 511 l′)
 
 turns-opened : (h t : ℕ) (row : List ℕ) → t ≡ h → {c : Bool} → c ≡ is-counted h row → turn-count h (t ∷ row) ≡ cond c 1 0 + turn-count h row
 turns-opened h t row e k = unfold turn-count in rw (eq-eqb t h e, k)
