@@ -1,7 +1,5 @@
 // Measures our calls beside RE2, PCRE2 with JIT and TRE: pattern and text in, answer out, everything made for a call thrown away after it.
 // Prints lines of fields parted by tabs, which report.py turns into tables and plots. bench/run builds and runs this.
-#include <time.h>
-
 #include <algorithm>
 #include <cstdio>
 #include <cstdlib>
@@ -10,32 +8,12 @@
 #include <vector>
 
 #include "calls.h"
+#include "timing.h"
 #include "works.h"
 
 namespace {
 
-// The thread's own time, so that others at work on the machine disturb less.
-double now_ns() {
-    timespec t;
-    clock_gettime(CLOCK_THREAD_CPUTIME_ID, &t);
-    return static_cast<double>(t.tv_sec) * 1e9 + static_cast<double>(t.tv_nsec);
-}
-
-size_t failures = 0;  // calls that were measured and failed
 bool wrong_answer = false;  // of ours
-
-double turns_ns(const Engine &e, const Work &w, size_t calls) {
-    double start = now_ns();
-    for (size_t i = 0; i < calls; i++) failures += e.call(w) != "";
-    return now_ns() - start;
-}
-
-struct Measured {
-    string wrong;
-    size_t calls = 1;
-    vector<double> ns;  // per call, one for each round, in order once all are made
-    double at(double part) const { return ns[static_cast<size_t>(part * static_cast<double>(ns.size() - 1) + 0.5)]; }
-};
 
 // Engines on a work, and the tables that show what they took.
 struct Job {
@@ -46,6 +24,11 @@ struct Job {
     double least_ns;  // of a round of one engine
     vector<Measured> measured;
 };
+
+// A call of one engine of a job.
+auto call_of(const Job &j, size_t k) {
+    return [&j, k] { return j.engines[k].call(j.work); };
+}
 
 // Sees that each engine answers, and finds how many calls take long enough. The first engine is ours.
 void prepare(Job &j) {
@@ -61,11 +44,7 @@ void prepare(Job &j) {
             }
             continue;
         }
-        double took = 0;
-        while ((took = turns_ns(j.engines[k], j.work, m.calls)) < j.least_ns) {
-            double more = took > 0 ? j.least_ns / took * 1.2 : 10;
-            m.calls = static_cast<size_t>(static_cast<double>(m.calls) * std::min(10.0, std::max(more, 1.1))) + 1;
-        }
+        m.prepare(call_of(j, k), j.least_ns);
     }
 }
 
@@ -75,10 +54,7 @@ void measure(vector<Job> &jobs, int rounds) {
     for (Job &j : jobs) prepare(j);
     for (int r = 0; r < rounds; r++)
         for (Job &j : jobs)
-            for (size_t k = 0; k < j.count; k++) {
-                Measured &m = j.measured[k];
-                if (m.wrong == "") m.ns.push_back(turns_ns(j.engines[k], j.work, m.calls) / static_cast<double>(m.calls));
-            }
+            for (size_t k = 0; k < j.count; k++) j.measured[k].round(call_of(j, k));
     for (Job &j : jobs)
         for (Measured &m : j.measured) std::sort(m.ns.begin(), m.ns.end());
 }
@@ -101,15 +77,11 @@ vector<Job> all_jobs(double least_ns) {
     return jobs;
 }
 
-// kind, work, pattern bytes, text bytes, engine, then median, least and most in ns for a call, calls in a round; or what was wrong
+// kind, work, pattern bytes, text bytes, engine, then what was measured
 void print(const char *kind, const Job &j) {
     for (size_t k = 0; k < j.count; k++) {
-        const Measured &m = j.measured[k];
         printf("%s\t%s\t%zu\t%zu\t%s\t", kind, j.work.id.c_str(), j.work.pattern.size(), j.work.text.size(), j.engines[k].name);
-        if (m.wrong != "")
-            printf("-\t-\t-\t-\t%s\n", m.wrong.c_str());
-        else
-            printf("%.1f\t%.1f\t%.1f\t%zu\t\n", m.at(0.5), m.at(0), m.at(1), m.calls);
+        print(j.measured[k]);
     }
 }
 
@@ -133,13 +105,8 @@ int profile(const string &which, const string &engine, double seconds) {
                 fprintf(stderr, "bench: %s on %s: %s\n", e.name, w.name.c_str(), wrong.c_str());
                 return 1;
             }
-            size_t calls = 0;
-            double spent = 0;
-            while (spent < seconds * 1e9) {
-                spent += turns_ns(e, w, 100);
-                calls += 100;
-            }
-            double ns = spent / static_cast<double>(calls);
+            double ns = 0;
+            size_t calls = call_for([&] { return e.call(w); }, seconds, 100, ns);
             printf("%s on %s: %zu calls, %.1f ns for a call, %.2f ns for a byte\n", e.name, w.name.c_str(), calls, ns, ns / static_cast<double>(w.text.size()));
             return failures != 0;
         }

@@ -1,9 +1,10 @@
 #!/usr/bin/env python3
 """Turns the measurements of bench/run into tables and plots.
 
-    report.py text RESULTS        the tables, as plain text
-    report.py markdown RESULTS    the same, as Markdown
-    report.py plots RESULTS DIR   DIR/works.svg and DIR/growth.svg
+    report.py text RESULTS                the tables, as plain text
+    report.py nights NIGHTS               those of the nights
+    report.py markdown RESULTS [NIGHTS]   the same, as Markdown
+    report.py plots RESULTS DIR           DIR/works.svg and DIR/growth.svg
 """
 import math
 import sys
@@ -24,10 +25,10 @@ class Results:
             if f[0] == "about-run":
                 self.run[f[1]] = f[2]
             elif f[0] == "about":
-                self.about[f[1]] = {"name": f[2], "says": f[3], "flag": f[4]}
-            elif f[0] in ("work", "verdict", "text", "pattern"):
+                self.about[f[1]] = {"name": f[2], "says": f[3], "flag": f[4] if len(f) > 4 else ""}
+            elif f[0] in ("work", "verdict", "text", "pattern", "night"):
                 ns, least, most = (None if x == "-" else float(x) for x in f[5:8])
-                size = {"pattern": int(f[2]), "text": int(f[3])}
+                size = {"marks" if f[0] == "night" else "pattern": int(f[2]), "text": int(f[3])}
                 self.lines.append({"kind": f[0], "work": f[1], **size, "engine": f[4], "ns": ns, "least": least, "most": most, "wrong": f[9]})
         # the longest of the growing texts is measured with the works, before the others
         self.lines.sort(key=lambda x: x["text"] if x["kind"] == "text" else 0)
@@ -55,8 +56,8 @@ def cost(x, per=None):
     return x["wrong"] if x["ns"] is None else number(x["ns"] / (per or 1))
 
 
-def spread(x):
-    return x["wrong"] if x["ns"] is None else f"{number(x['ns'])} ({number(x['least'])} to {number(x['most'])})"
+def spread(x, per=1):
+    return x["wrong"] if x["ns"] is None else f"{number(x['ns'] / per)} ({number(x['least'] / per)} to {number(x['most'] / per)})"
 
 
 def ratio(peer, ours):
@@ -122,6 +123,16 @@ def growth_tables(r):
         yield title, ["pattern bytes", "positions"] + [TITLE[e] for e in ["ours"] + PEERS], rows, notes
 
 
+def night_table(r):
+    reports, rows = int(r.run["reports"]), []
+    for sheet in r.of("night", engine="sheet"):
+        calls = r.one("night", work=sheet["work"], text=sheet["text"], engine="calls")
+        each = sheet["text"] / reports
+        rows.append([r.about[sheet["work"]]["name"], f"{each:,.0f}", f"{sheet['marks']}", spread(sheet, 1e6), spread(calls, 1e6), ratio(sheet, calls)])
+    head = ["night", "bytes of a report", "marks", "the sheet, ms", "the calls, ms", "ratio"]
+    yield f"{reports:,} reports, ms: median (least to most); ratio: the sheet's time divided by that of the calls, below 1 the sheet is faster", head, rows, []
+
+
 def tables(r):
     yield from work_tables(r)
     yield from verdict_table(r)
@@ -134,19 +145,43 @@ CALLS = [
     "The peers read bytes and their dot reads every byte. None of them says whether another tree exists, and a capture keeps only the last turn of a repetition.",
 ]
 
+NIGHT = [
+    "The sheet: one call for the whole night. The calls: one for the first tree of each report, on the same bytes, with the same lent cells and with room for every tree.",
+    "What the sheet adds up and prints, turns, bytes and longest turns of every mark, is in its time; the calls count nothing.",
+]
+
+
+def about_run(r, before=""):
+    for k in ("date", "machine", "peers", "ours", "way"):
+        if k in r.run:
+            print(f"{before}{k}: {r.run[k]}")
+    print()
+
 
 def text(r):
     print("Dimmhalt beside RE2, PCRE2 with JIT and TRE\n")
-    for k in ("date", "machine", "peers", "ours", "way"):
-        if k in r.run:
-            print(f"{k}: {r.run[k]}")
-    print()
+    about_run(r)
     for line in CALLS:
         print(line)
     print("\nThe works:")
     for w, a in r.about.items():
         print(f"  {w} {a['name']}: {a['says'].replace('`', '')} (another tree: {'yes' if a['flag'] == '1' else 'no'})")
-    for title, head, rows, notes in tables(r):
+    text_tables(tables(r))
+
+
+def nights(r):
+    print("A night: the sheet beside a call for each report\n")
+    about_run(r)
+    for line in NIGHT:
+        print(line)
+    print("\nThe nights:")
+    for a in r.about.values():
+        print(f"  {a['name']}: {a['says'].replace('`', '')}")
+    text_tables(night_table(r))
+
+
+def text_tables(given):
+    for title, head, rows, notes in given:
         wide = [max(len(x[i]) for x in [head] + rows) for i in range(len(head))]
         print(f"\n{title}\n")
         for x in [head] + rows:
@@ -155,27 +190,46 @@ def text(r):
             print(f"  {n.replace('`', '')}")
 
 
-def markdown(r):
+def markdown(r, n):
     print("# Performance\n")
     print("Measured by `bench/run`, which says with `--help` what it needs; this page is what `bench/run --markdown` prints of it.\n")
-    for k in ("date", "machine", "peers", "ours", "way"):
-        if k in r.run:
-            print(f"- {k}: {r.run[k]}")
-    print()
+    about_run(r, "- ")
     for line in CALLS:
         print(line)
     print("\n| work | pattern and text | another tree |\n|---|---|---|")
     for w, a in r.about.items():
         says = a["says"].replace("|", "\\|")
         print(f"| {w} {a['name']} | {says} | {'yes' if a['flag'] == '1' else 'no'} |")
-    for title, head, rows, notes in tables(r):
+    markdown_tables(tables(r))
+    print("\n![Time of a call for each work](../bench/works.svg)\n\n![Growth with the text and with the pattern](../bench/growth.svg)\n")
+    if n:
+        markdown_nights(r, n)
+    print(Path(__file__).with_name("notes.md").read_text(encoding="utf-8"), end="")
+
+
+def markdown_nights(r, n):
+    print("## A night\n")
+    print("Measured by `bench/run --nights`, in a run of its own.\n")
+    about_run(n, "- ")
+    if any(n.run.get(k) != r.run.get(k) for k in ("machine", "ours")):
+        print("That is not what the tables above were measured on: times of theirs and of this one do not compare.")
+    for line in NIGHT:
+        print(line)
+    print("\n| night | pattern and reports |\n|---|---|")
+    for a in n.about.values():
+        says = a["says"].replace("|", "\\|")
+        print(f"| {a['name']} | {says} |")
+    markdown_tables(night_table(n))
+    print()
+
+
+def markdown_tables(given):
+    for title, head, rows, notes in given:
         print(f"\n**{title}**\n\n| " + " | ".join(head) + " |\n|---|" + "---:|" * (len(head) - 1))
         for x in rows:
             print("| " + " | ".join(x) + " |")
         for n in notes:
             print(f"\n{n}")
-    print("\n![Time of a call for each work](../bench/works.svg)\n\n![Growth with the text and with the pattern](../bench/growth.svg)\n")
-    print(Path(__file__).with_name("notes.md").read_text(encoding="utf-8"), end="")
 
 
 # ---- plots
@@ -289,8 +343,10 @@ def lines(r, path):
 def main(words):
     if len(words) == 2 and words[0] == "text":
         text(Results(words[1]))
-    elif len(words) == 2 and words[0] == "markdown":
-        markdown(Results(words[1]))
+    elif len(words) == 2 and words[0] == "nights":
+        nights(Results(words[1]))
+    elif len(words) in (2, 3) and words[0] == "markdown":
+        markdown(Results(words[1]), Results(words[2]) if len(words) == 3 else None)
     elif len(words) == 3 and words[0] == "plots":
         r = Results(words[1])
         bars(r, f"{words[2]}/works.svg")

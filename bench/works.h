@@ -30,10 +30,9 @@ struct Dice {  // the same row of numbers in each run
 };
 
 // Rows of a nightly dump: a table, how many records, and what became of it. As many as fit.
-string rows(size_t n) {
+string rows(size_t n, Dice dice = {}) {
     static const char *const tables[] = {"customers", "orders",  "invoices", "stock",  "prices",  "ledger",
                                          "audit",     "returns", "receipts", "labels", "batches", "carriers"};
-    Dice dice;
     string s;
     for (;;) {
         string row = tables[dice.below(12)];
@@ -49,15 +48,13 @@ string repeated(const string &part, size_t n) {
     return s;
 }
 
-string fields(size_t n) {
-    Dice dice;
+string fields(size_t n, Dice dice = {}) {
     string s;
     for (size_t i = 0; i < n; i++) s += i == n / 3 || i == 2 * n / 3 ? ';' : static_cast<char>("abcdefgh 0123\n"[dice.below(14)]);
     return s;
 }
 
-string words(size_t n) {
-    Dice dice;
+string words(size_t n, Dice dice = {}) {
     string s;
     for (;;) {
         string word;
@@ -81,7 +78,7 @@ vector<Work> works() {
 }
 
 // The same two works on shorter texts.
-vector<Work> longer_texts() {
+inline vector<Work> longer_texts() {
     vector<Work> out;
     for (size_t n = 256; n <= text_limit; n *= 2) {
         out.push_back({"a", "rows", "", works()[0].pattern, rows(n), 0});
@@ -91,7 +88,7 @@ vector<Work> longer_texts() {
 }
 
 // A pattern of exactly `bytes` bytes, bytes / 8 positions: a turn reads that many letters. The texts are whole turns of each of these.
-vector<Work> longer_patterns() {
+inline vector<Work> longer_patterns() {
     vector<Work> out;
     string letters = repeated("abcdefghijklmnopqrstuvwxyz", text_limit + 26).substr(0, text_limit);
     for (size_t bytes = 8; bytes <= 512; bytes *= 2) {

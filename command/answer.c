@@ -48,7 +48,7 @@ void say_answer(const struct answer *answer, const struct inputs *inputs, const 
     if (answer->number == DIMMHALT_ANSWERED) {
         say_fits(answer->flag, of_first);
     } else if (answer->number == DIMMHALT_NO_TREE) {
-        say_painted(RED, "No tree, " NUMBERED(DIMMHALT_NO_TREE), NO_TREE ".");
+        say_no_tree();
         say_where(inputs->report, answer->value, "a report that fits");
     } else {
         say_refusal(answer->number, answer->value, inputs->pattern);

@@ -6,21 +6,16 @@
 #include "outline.h"
 #include "words.h"
 
-/* The answers that are no refusals. */
+/* The answers that are trees. */
 #define ONE_TREE "the report fits the pattern, in exactly one way"
 #define SEVERAL_TREES "the report fits the pattern, but it could mean something else"
-#define NO_TREE "the report does not fit the pattern"
 
-/* The lines of a help for the numbers that can be answered, and for the exit statuses that go with no number. */
+/* The lines of a help for the numbers that can be answered. */
 #define ANSWERS_HELP                                                      \
     HELP_ANSWER(DIMMHALT_ANSWERED, STATUS_ONE_TREE, ONE_TREE)             \
     HELP_ANSWER(DIMMHALT_ANSWERED, STATUS_SEVERAL_TREES, SEVERAL_TREES)   \
     HELP_ANSWER(DIMMHALT_NO_TREE, STATUS_NO_TREE, NO_TREE)                \
     REFUSALS(HELP_REFUSAL)
-#define STATUSES_HELP                                                              \
-    HELP_STATUS(STATUS_WRONG_CALL, "wrong call, or a file that cannot be opened")  \
-    HELP_STATUS(STATUS_INTERNAL, "an internal mistake")                            \
-    HELP_STATUS(STATUS_INPUT_OUTPUT, "input or output failed")
 
 struct answer {
     uint32_t number;

@@ -66,6 +66,17 @@ size_t put_number(uint64_t number, char *shown) {
     return (size_t)(digits + NUMBER_MOST - at);
 }
 
+const char *grouped(uint64_t number, char room[GROUPED_MOST]) {
+    char *at = room + GROUPED_MOST - 1;
+    *at = '\0';
+    for (int digits = 0; number > 0 || digits == 0; digits++) {
+        if (digits > 0 && digits % 3 == 0) *--at = ',';
+        *--at = (char)('0' + number % 10);
+        number /= 10;
+    }
+    return at;
+}
+
 void put_mark_label(uint64_t mark, char label[MARK_LABEL_MOST]) {
     size_t used = sizeof MARK_LABEL - 1;
     memcpy(label, MARK_LABEL, used);

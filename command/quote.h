@@ -24,6 +24,10 @@ size_t quote(struct bytes bytes, size_t width, char *shown);
 size_t put_number(uint64_t number, char *shown);
 #define NUMBER_MOST 20
 
+/* A number with a comma before each three digits, at the end of `room`. */
+#define GROUPED_MOST (NUMBER_MOST + NUMBER_MOST / 3 + 1) /* the digits, a comma for each three of them, and a 0 */
+const char *grouped(uint64_t number, char room[GROUPED_MOST]);
+
 /* The label of a mark: its number has two characters at least, so that labels stand under each other. */
 #define MARK_LABEL "mark "
 #define MARK_LABEL_MOST (sizeof MARK_LABEL + 1 + NUMBER_MOST)

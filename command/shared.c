@@ -4,23 +4,32 @@
 #include <fcntl.h>
 #include <inttypes.h>
 #include <signal.h>
+#include <stdarg.h>
 #include <stdio.h>
 #include <stdlib.h>
 #include <string.h>
 #include <unistd.h>
 
+#include "progress.h"
 #include "quote.h"
 
 static int coloured = 0;
 
-void stop(int status, const char *subject, const char *what) {
+void stop(int status, const char *subject, const char *what, ...) {
+    va_list words;
+    end_progress();
+    va_start(words, what);
     fputs("dimmhalt: ", stderr);
     print_escaped(stderr, subject);
-    fprintf(stderr, ": %s\n", what);
+    fputs(": ", stderr);
+    vfprintf(stderr, what, words);
+    fputc('\n', stderr);
+    va_end(words);
     exit(status);
 }
 
 void stop_at_answer(const char *call, uint64_t number, const char *const *names, const uint64_t *figures, size_t count) {
+    end_progress();
     fprintf(stderr, "dimmhalt: internal: %s answered %" PRIu64, call, number);
     for (size_t at = 0; at < count; at++) {
         const char *joint = at == 0 ? " with" : at + 1 == count ? " and" : ",";
@@ -59,7 +68,7 @@ void prepare_streams(void) {
 
 void parse_call(const struct argp *argp, unsigned flags, int count, char **words, void *input) {
     error_t failed = argp_parse(argp, count, words, flags, NULL, input);
-    if (failed != 0) stop(STATUS_INTERNAL, "internal", strerror(failed));
+    if (failed != 0) stop(STATUS_INTERNAL, "internal", "%s", strerror(failed));
 }
 
 const char *switch_to(enum paint paint) {

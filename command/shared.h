@@ -7,6 +7,7 @@
 #include <stdint.h>
 
 #define STATUS_ONE_TREE 0
+#define STATUS_ALL_FIT 0 /* of a night */
 #define STATUS_SEVERAL_TREES 1
 #define STATUS_NO_TREE 2
 #define STATUS_PATTERN_REFUSED 3
@@ -22,8 +23,11 @@ struct bytes {
     size_t length;
 };
 
-/* Ends the program with a line on standard error: `dimmhalt: SUBJECT: WHAT`. The subject may hold any bytes. */
-void stop(int status, const char *subject, const char *what) __attribute__((noreturn));
+/*
+ * Ends the program with a line on standard error: `dimmhalt: SUBJECT: WHAT`. The subject may hold any bytes; what is said of it is a format of
+ * printf, for what follows it.
+ */
+void stop(int status, const char *subject, const char *what, ...) __attribute__((noreturn, format(printf, 3, 4)));
 
 /* Ends the program because a call answered what it never answers here: its number, and figures that have these names, at least one. */
 void stop_at_answer(const char *call, uint64_t number, const char *const *names, const uint64_t *figures, size_t count)

@@ -7,6 +7,7 @@
 #include "answer.h"
 #include "dimmhalt.h"
 #include "inputs.h"
+#include "pattern.h"
 #include "quote.h"
 #include "verbs.h"
 
@@ -79,12 +80,9 @@ static const struct argp turns_argp = {options, parse_option, INPUTS_ARGUMENTS("
 
 /* How many marks has a pattern that was read before? */
 static uint64_t ask_marks(struct bytes pattern) {
-    static const char *const names[DIMMHALT_READ_FIGURES] = {"value", "positions", "marks"};
-    uint64_t out[DIMMHALT_READ_FIGURES] = {0};
-    uint32_t number = dimmhalt_read(pattern.first, pattern.length, out, DIMMHALT_READ_FIGURES);
-    int is_possible = number == DIMMHALT_ANSWERED && out[0] == 0 && out[1] <= DIMMHALT_POSITION_LIMIT && out[2] <= DIMMHALT_MARK_LIMIT;
-    if (!is_possible) stop_at_answer("dimmhalt_read", number, names, out, DIMMHALT_READ_FIGURES);
-    return out[2];
+    struct reading reading = ask_reading(pattern);
+    if (reading.number != DIMMHALT_ANSWERED) stop_at_reading(&reading);
+    return reading.figures[READ_MARKS];
 }
 
 /* How many turns of a mark read text? Each reads bytes of its own, so there are no more than the report has. */
@@ -117,7 +115,7 @@ static void say_count(uint64_t mark, uint64_t count) {
 }
 
 static void say_counts(const struct counts *counts) {
-    puts(counts->marks == 0 ? "\nThe pattern has no marks." : "\nTurns that read text:");
+    puts(counts->marks == 0 ? "\n" NO_MARKS : "\nTurns that read text:");
     for (uint64_t mark = counts->first; mark <= counts->last; mark++) say_count(mark, counts->of[mark]);
 }
 

@@ -7,20 +7,6 @@
 #include "dimmhalt.h"
 #include "quote.h"
 
-#define GROUPED_MOST (NUMBER_MOST + NUMBER_MOST / 3 + 1) /* the digits, a comma for each three of them, and a 0 */
-
-/* A number with a comma before each three digits, at the end of `room`. */
-static const char *grouped(uint64_t number, char room[GROUPED_MOST]) {
-    char *at = room + GROUPED_MOST - 1;
-    *at = '\0';
-    for (int digits = 0; number > 0 || digits == 0; digits++) {
-        if (digits > 0 && digits % 3 == 0) *--at = ',';
-        *--at = (char)('0' + number % 10);
-        number /= 10;
-    }
-    return at;
-}
-
 void say_painted(enum paint paint, const char *first, const char *rest, ...) {
     va_list words;
     va_start(words, rest);
@@ -61,8 +47,10 @@ void say_where(struct bytes bytes, uint64_t place, const char *some) {
     puts(".");
 }
 
-/* The list of refusals says the limit of a report with a comma, which the preprocessor cannot put into it. */
-typedef char report_limit_is_as_it_is_said[DIMMHALT_TEXT_LIMIT == 4096 ? 1 : -1];
+/* The lists of refusals say some limits with a comma, which the preprocessor cannot put into them. */
+typedef char text_limit_is_as_it_is_said[DIMMHALT_TEXT_LIMIT == 4096 ? 1 : -1];
+typedef char report_limit_is_as_it_is_said[DIMMHALT_REPORT_LIMIT == 1000 ? 1 : -1];
+typedef char last_limit_is_as_it_is_said[DIMMHALT_LAST_LIMIT == 4096000 ? 1 : -1];
 
 #define RETURN_STATUS(number, status, refused, why) \
     case number: return status;
@@ -73,9 +61,25 @@ int status_of(uint32_t number, uint64_t flag) {
     case DIMMHALT_NO_TREE: return STATUS_NO_TREE;
     case DIMMHALT_NO_SUCH_MARK: return STATUS_MARK_REFUSED;
     REFUSALS(RETURN_STATUS)
+    ROOM_REFUSAL(RETURN_STATUS)
+    NIGHT_REFUSALS(RETURN_STATUS)
     default: return STATUS_INTERNAL;
     }
 }
+
+#define RETURN_WHY(number, status, refused, why) \
+    case number: return why;
+
+const char *why_refused(uint32_t number) {
+    switch (number) {
+    REFUSALS(RETURN_WHY)
+    ROOM_REFUSAL(RETURN_WHY)
+    NIGHT_REFUSALS(RETURN_WHY)
+    default: return "";
+    }
+}
+
+void say_no_tree(void) { say_painted(RED, "No tree, " NUMBERED(DIMMHALT_NO_TREE), NO_TREE "."); }
 
 #define SAY_REFUSAL(number, status, refused, why) \
     case number: say_painted(RED, "The " refused " is refused, " NUMBERED(number), why "."); break;
@@ -83,6 +87,7 @@ int status_of(uint32_t number, uint64_t flag) {
 void say_refusal(uint32_t number, uint64_t value, struct bytes pattern) {
     switch (number) {
     REFUSALS(SAY_REFUSAL)
+    ROOM_REFUSAL(SAY_REFUSAL)
     }
     if (number == DIMMHALT_NOT_A_PATTERN) say_where(pattern, value, "some pattern");
 }

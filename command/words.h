@@ -12,6 +12,13 @@
 /* How words name the number of an answer. */
 #define NUMBERED(number) "number " DIGITS(number)
 
+/* What a line on standard error says of something that is refused, before it says why. */
+#define REFUSED(number) "refused, " NUMBERED(number) ": "
+
+/* The answer that is neither a tree nor a refusal, and what is said where there are no counts. */
+#define NO_TREE "the report does not fit the pattern"
+#define NO_MARKS "The pattern has no marks."
+
 /* The refusals: number, exit status, what is refused, and why. */
 #define REFUSALS(REFUSAL)                                                                                                                 \
     REFUSAL(DIMMHALT_PATTERN_TOO_LONG, STATUS_PATTERN_REFUSED, "pattern", "it has more than " DIGITS(DIMMHALT_PATTERN_LIMIT) " bytes")    \
@@ -24,21 +31,40 @@
             "it has more than " DIGITS(DIMMHALT_MARK_LIMIT) " branches and repeated parts")                                               \
     REFUSAL(DIMMHALT_TEXT_TOO_LONG, STATUS_REPORT_REFUSED, "report", "it has more than 4,096 bytes")
 
+/* That of a report whose tree the room does not hold, and those of a night. */
+#define ROOM_REFUSAL(REFUSAL) \
+    REFUSAL(DIMMHALT_ROOM_TOO_SMALL, STATUS_REPORT_REFUSED, "report", "its tree is longer than the room that is lent")
+#define NIGHT_REFUSALS(REFUSAL)                                                                                                           \
+    REFUSAL(DIMMHALT_WRONG_LENGTHS, STATUS_WRONG_CALL, "reports", "there are more than 1,000 of them")                                    \
+    REFUSAL(DIMMHALT_WRONG_MARKS, STATUS_WRONG_CALL, "last night's turns", "there is not one number for each mark")                       \
+    REFUSAL(DIMMHALT_LAST_TOO_LARGE, STATUS_WRONG_CALL, "last night's turns", "a number is over 4,096,000")
+
 /* A line of a table in a help: the number of an answer, its exit status, what it means. */
 #define HELP_ANSWER(number, status, meaning) "  " DIGITS(number) "   " DIGITS(status) "  " meaning "\n"
 #define HELP_REFUSAL(number, status, refused, why) HELP_ANSWER(number, status, refused " refused: " why)
 
-/* A line of it for the mark, whose number has two digits. */
+/* Lines of it for numbers of two digits: the mark's, and those of a night, whose exit status has two as well. */
 #define HELP_NO_SUCH_MARK \
     " " DIGITS(DIMMHALT_NO_SUCH_MARK) "   " DIGITS(STATUS_MARK_REFUSED) "  mark refused: the pattern does not have it\n"
+#define HELP_NIGHT_REFUSAL(number, status, refused, why) " " DIGITS(number) "  " DIGITS(status) "  " refused " refused: " why "\n"
 
-/* A line of it for an exit status of two digits, which goes with no number. */
+/* Lines of it for exit statuses of two digits, which go with no number. */
 #define HELP_STATUS(status, meaning) "     " DIGITS(status) "  " meaning "\n"
+#define STATUSES_HELP                                                              \
+    HELP_STATUS(STATUS_WRONG_CALL, "wrong call, or a file that cannot be opened")  \
+    HELP_STATUS(STATUS_INTERNAL, "an internal mistake")                            \
+    HELP_STATUS(STATUS_INPUT_OUTPUT, "input or output failed")
 
-/* The exit status for one of the numbers 0, 1, 2, 4, 5, 6, 7, 8 and 10. */
+/* The exit status for a number that is 0, 8, 10 or of a list of refusals. */
 int status_of(uint32_t number, uint64_t flag);
 
-/* Says on standard output why a call refused a pattern or a report, for a number of the list. */
+/* Why something is refused, for a number of a list. */
+const char *why_refused(uint32_t number);
+
+/* Says on standard output that a report does not fit. */
+void say_no_tree(void);
+
+/* Says on standard output why a call refused a pattern or a report, for a number of the lists. */
 void say_refusal(uint32_t number, uint64_t value, struct bytes pattern);
 
 /* Says on standard output that a mark is refused by a pattern with so many marks. */

@@ -2,7 +2,7 @@
 
 import os
 
-from holding import ONE_TREE, REPORT_TOO_LONG, Holder, has
+from holding import ONE_TREE, REPORT_TOO_LONG, VERSION, Holder, has
 
 TRY_ALONE = "\nTry `dimmhalt --help' or `dimmhalt --usage' for more information.\n"
 ANSWERS = """\
@@ -29,14 +29,14 @@ def try_help(verb):
 
 def hold_help(holder):
     for words in (["--help"], ["-?"], ["--help", "nothing"]):
-        out = has("Usage: dimmhalt [OPTION...] VERB ...\n", "\n  judge  ", "\n  turns  ", "--version")
+        out = has("Usage: dimmhalt [OPTION...] VERB ...\n", "\n  judge  ", "\n  turns  ", "\n  sheet  ", "--version")
         holder.hold_done(f"help: {words}", holder.run(words), 0, out)
     for words in (["judge", "--help"], ["judge", "--tree", "a", "--help"], ["--", "judge", "--help"]):
         usages = ("Usage: dimmhalt judge [OPTION...] PATTERN REPORT\n", "  or:  dimmhalt judge [OPTION...] -e PATTERN REPORT\n")
         holder.hold_done(f"help: {words}", holder.run(words), 0, has(*usages, "--tree", "--raw", "\n" + ANSWERS + STATUSES))
     holder.hold_done("usage", holder.run(["judge", "--usage"]), 0, has("Usage: dimmhalt judge", "[-e PATTERN]"))
     for words in (["--version"], ["-V"], ["judge", "--version"]):
-        holder.hold_done(f"version: {words}", holder.run(words), 0, "dimmhalt 1.1\n")
+        holder.hold_done(f"version: {words}", holder.run(words), 0, VERSION)
 
 
 def hold_wrong_calls(holder):

@@ -7,6 +7,7 @@ import time
 
 SHOWN = 600
 QUICK = 10  # seconds, on a machine that is busy; what is done in far too many steps takes longer
+VERSION = "dimmhalt 1.2\n"
 ONE_TREE = "One tree: the report fits the pattern, in exactly one way.\n"
 SEVERAL = "More than one tree: the report fits the pattern, but it could mean something else"
 NO_TREE = "No tree, number 8: the report does not fit the pattern.\n"
@@ -16,6 +17,7 @@ NOT_WRITTEN = "The pattern is refused, number 4: it is not written by the rules.
 TOO_DEEP = "The pattern is refused, number 5: its groups stand more than 64 deep in each other.\n"
 MANY_PLACES = "The pattern is refused, number 6: more than 64 places of it read a byte.\n"
 MANY_MARKS = "The pattern is refused, number 7: it has more than 64 branches and repeated parts.\n"
+FIGURES = {"first_tree": ("value", "flag"), "read": ("value", "positions", "marks"), "turns": ("count",), "sheet": ("value",)}
 
 
 def as_bytes(text):
@@ -100,3 +102,10 @@ def has(*parts):
 def one_line(begins, *parts):
     """Looks at an output: is it one line that begins so and has all of these in it?"""
     return lambda output: output.startswith(as_bytes(begins)) and output.find(b"\n") == len(output) - 1 and has(*parts)(output)
+
+
+def said(call, number, *figures):
+    """The line for an answer that cannot be."""
+    named = [f"{name} {figure}" for name, figure in zip(FIGURES[call], figures, strict=True)]
+    joined = " and ".join([", ".join(named[:-1]), named[-1]] if len(named) > 1 else named)
+    return f"dimmhalt: internal: dimmhalt_{call} answered {number} with {joined}, which cannot be\n"

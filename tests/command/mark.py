@@ -1,7 +1,7 @@
 """How the verb turns is called: help, the word MARK, wrong calls, where options may stand."""
 
 from calls import ANSWERS, STATUSES, try_help
-from holding import ONE_TREE, has
+from holding import ONE_TREE, VERSION, has
 from turns import hold_turns, listed, no_mark
 
 NO_SUCH_MARK = " 10   5  mark refused: the pattern does not have it\n"
@@ -15,7 +15,7 @@ def hold_turns_help(holder):
         holder.hold_done(f"help: turns {words}", did, 0, has(*usages, "--raw", "\n" + ANSWERS + NO_SUCH_MARK + STATUSES))
         holder.hold(f"no option of judge: turns {words}", b"--tree" in did.out, False)
     holder.hold_done("usage of turns", holder.run(["turns", "--usage"]), 0, has("Usage: dimmhalt turns", "[-e PATTERN]", "[MARK]"))
-    holder.hold_done("version by turns", holder.run(["turns", "--version"]), 0, "dimmhalt 1.1\n")
+    holder.hold_done("version by turns", holder.run(["turns", "--version"]), 0, VERSION)
 
 
 def hold_numbers(holder):

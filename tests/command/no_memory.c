@@ -26,3 +26,13 @@ uint32_t dimmhalt_turns(const uint16_t *row, size_t row_length, uint64_t mark, u
     (void)row, (void)row_length, (void)mark, (void)out, (void)out_length;
     abort();
 }
+
+uint32_t dimmhalt_sheet(const uint8_t *pattern, size_t pattern_length, const uint8_t *reports, size_t reports_length, const uint64_t *lengths,
+                        size_t lengths_length, const uint64_t *last, size_t last_length, uint64_t *cells, size_t cells_length, uint16_t *tree,
+                        size_t tree_length, struct dimmhalt_record *table, size_t table_length, uint8_t *sheet, size_t sheet_length,
+                        uint64_t *out, size_t out_length) {
+    (void)pattern, (void)pattern_length, (void)reports, (void)reports_length, (void)lengths, (void)lengths_length, (void)last, (void)last_length;
+    (void)cells, (void)cells_length, (void)tree, (void)tree_length, (void)table, (void)table_length, (void)sheet, (void)sheet_length;
+    (void)out, (void)out_length;
+    abort();
+}

@@ -11,7 +11,7 @@ import shutil
 import sys
 import threading
 
-from holding import ONE_TREE, Holder, has, one_line
+from holding import ONE_TREE, VERSION, Holder, has, one_line
 from streams import closing
 from turns import listed, no_mark
 
@@ -105,7 +105,7 @@ def hold_passing_on(copy):
     copy.words = through
     copy.hold_done("an empty word", copy.call([""]), 64, "", has('dimmhalt: there is no verb ""\n'))
     copy.hold_done("no words", copy.call([]), 64, "", has("Usage: dimmhalt [OPTION...] VERB ...\n"))
-    copy.hold_done("the version", copy.call(["--version"]), 0, "dimmhalt 1.1\n")
+    copy.hold_done("the version", copy.call(["--version"]), 0, VERSION)
     copy.hold_done("a wrong file", copy.call(["judge", "nothing", "nothing"]), 64, "", "dimmhalt: nothing: No such file or directory\n")
     several = copy.call(JUDGED, b"a", changes={"DIMMHALT_ANSWER": "0 1 1 353"})
     copy.hold("a status", several.status, 1)

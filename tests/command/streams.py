@@ -6,6 +6,7 @@ import resource
 import subprocess
 
 from holding import NO_TREE, ONE_TREE, SEVERAL, TOO_DEEP
+from sheet import in_words, raw_sheet
 from turns import OF_FIRST, no_mark
 
 LOST = "dimmhalt: standard output: not all could be written\n"
@@ -26,11 +27,13 @@ def hold_lost_output(holder):
     """Closed, full, or a pipe that none reads: 74, whatever was to be said."""
     report = holder.file("report", "a" * 4000)
     judged, counted = ["judge", "-e", "a*", report], ["turns", "-e", "a*", report]
-    helps = ["--help"], ["judge", "--help"], ["turns", "--help"], ["--version"], ["--usage"]
+    night = ["sheet", "-e", "a*", "--last", holder.file("last", "1\n"), report]
+    helps = ["--help"], ["judge", "--help"], ["turns", "--help"], ["sheet", "--help"], ["--version"], ["--usage"]
     reader, writer = os.pipe()
     os.close(reader)
     with open("/dev/full", "wb") as full:
-        for words in (judged, [*judged, "--tree"], [*judged, "--raw"], counted, [*counted, "--raw"], [*counted, "2"], *helps):
+        calls = judged, [*judged, "--tree"], [*judged, "--raw"], counted, [*counted, "--raw"], [*counted, "2"], night, [*night, "--raw"]
+        for words in (*calls, *helps):
             for what, others in (("full", {"stdout": full}), ("unread", {"stdout": writer}), ("closed", closing(1))):
                 did = holder.run(words, **others)
                 holder.hold(f"a {what} output: {words[0]} {words[-1]}", [did.status, did.err], [74, LOST.encode()])
@@ -130,6 +133,22 @@ def hold_colour_of_turns(holder):
     holder.hold("raw counts are never painted", raw, (1, "ANSWER 0 9 1\nTURNS 1 1\nTURNS 2 2\nTURNS 3 0\n"))
 
 
+def hold_colour_of_sheet(holder):
+    """Of a sheet the number of reports is painted, the headings and marks, and of a refused report the verdict."""
+    good, bad = holder.file("good", "aa"), holder.file("bad", "b")
+    night = ["sheet", "-e", "a*", "--last", holder.file("last", "1\n")]
+    table = in_words(["x"], [0], [(2, 2, 1)], [1]).split("\n", 2)[2]
+    headings, mark = table.splitlines()
+    painted = f"\n{DIM}{headings}{PLAIN}\n{DIM}{mark[:7]}{PLAIN}{mark[7:]}\n"
+    whole = f"{GREEN}1 report{PLAIN}: 1 fits the pattern, 0 are refused.\n{painted}"
+    holder.hold("a painted sheet", on_terminal(holder, [*night, good], {"TERM": "xterm"}), (0, whole))
+    first, rest = NO_TREE.split(":", 1)
+    whole = f"{RED}2 reports{PLAIN}: 1 fits the pattern, 1 is refused.\n{painted}\nRefused:\n{bad}: {RED}{first}{PLAIN}:{rest}"
+    holder.hold("a painted sheet, one report refused", on_terminal(holder, [*night, good, bad], {"TERM": "xterm"}), (2, whole))
+    raw = on_terminal(holder, [*night, good, "--raw"], {"TERM": "xterm"})
+    holder.hold("a raw sheet is never painted", raw, (0, raw_sheet([0], [(2, 2, 1)], [1])))
+
+
 def hold_streams(holder):
     hold_lost_output(holder)
     hold_limited_output(holder)
@@ -137,3 +156,4 @@ def hold_streams(holder):
     hold_colour(holder)
     hold_colour_of_words(holder)
     hold_colour_of_turns(holder)
+    hold_colour_of_sheet(holder)

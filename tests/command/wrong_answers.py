@@ -5,19 +5,12 @@
 
 import sys
 
-from holding import ONE_TREE, PATTERN_TOO_LONG, Holder
+from holding import ONE_TREE, PATTERN_TOO_LONG, Holder, said
 from turns import NO_MARKS, listed, no_mark
+from wrong_sheets import hold_wrong_sheets
 
 OPENS, CLOSES, BYTE = 0, 128, 256
-FIGURES = {"first_tree": ("value", "flag"), "read": ("value", "positions", "marks"), "turns": ("count",)}
 VARIABLES = {"first_tree": "DIMMHALT_ANSWER", "read": "DIMMHALT_READ_ANSWER", "turns": "DIMMHALT_TURNS_ANSWER"}
-
-
-def said(call, number, *figures):
-    """The line for an answer that cannot be."""
-    named = [f"{name} {figure}" for name, figure in zip(FIGURES[call], figures, strict=True)]
-    joined = " and ".join([", ".join(named[:-1]), named[-1]] if len(named) > 1 else named)
-    return f"dimmhalt: internal: dimmhalt_{call} answered {number} with {joined}, which cannot be\n"
 
 
 def answering(holder, runs, report, **answers):
@@ -120,8 +113,10 @@ def main(wrong_answers, no_memory):
     hold_readings(holder)
     hold_counts(holder)
     hold_not_asked(holder)
+    hold_wrong_sheets(holder)
     without = Holder([no_memory])
-    for words in (["judge", "-e", "a", "/dev/null"], ["turns", "-e", "a", "/dev/null", "1"], ["--help"], []):
+    sheet = ["sheet", "-e", "a", "--last", "/dev/null", "/dev/null"]
+    for words in (["judge", "-e", "a", "/dev/null"], ["turns", "-e", "a", "/dev/null", "1"], sheet, ["--help"], []):
         holder.hold_done(f"no memory: {words}", without.run(words), 70, "", "dimmhalt: internal: Cannot allocate memory\n")
     return holder.tally("wrong answers, no memory")
 

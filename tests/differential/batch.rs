@@ -1,6 +1,7 @@
 //! Batches of cases for the C host, and what it writes of them: see tests/host/host.c.
 
 use reference::lent::{Left, Lent};
+use reference::night::{Night, Record};
 
 #[derive(Clone, Copy, PartialEq, Eq)]
 pub enum Call {
@@ -8,18 +9,19 @@ pub enum Call {
     FirstTree,
     Read,
     Turns,
+    Sheet,
 }
 
-pub const CALLS: [Call; 4] = [Call::Verdict, Call::FirstTree, Call::Read, Call::Turns];
+pub const CALLS: [Call; 5] = [Call::Verdict, Call::FirstTree, Call::Read, Call::Turns, Call::Sheet];
 
 impl Call {
     pub fn name(self) -> &'static str {
-        ["verdict", "first tree", "read", "turn count"][self as usize]
+        ["verdict", "first tree", "read", "turn count", "night sheet"][self as usize]
     }
 
     /// How many figures it has.
     pub fn figures(self) -> usize {
-        [0, 2, 3, 1][self as usize]
+        [0, 2, 3, 1, 1][self as usize]
     }
 }
 
@@ -30,6 +32,7 @@ pub struct Asked<'a> {
     pub text: &'a [u8],
     pub row: &'a [u16],
     pub mark: u64,
+    pub night: Night<'a>,
     pub lent: &'a Lent,
 }
 
@@ -58,6 +61,23 @@ fn put_words(batch: &mut Vec<u8>, words: &[u64]) {
     batch.extend(words.iter().flat_map(|word| word.to_le_bytes()));
 }
 
+fn put_records(batch: &mut Vec<u8>, records: &[Record]) {
+    put_length(batch, records.len());
+    batch.extend(records.iter().flat_map(|record| [record.turns, record.bytes, record.longest]).flat_map(|word| word.to_le_bytes()));
+}
+
+fn put_night(batch: &mut Vec<u8>, night: &Night, lent: &Lent) {
+    put_bytes(batch, night.pattern);
+    put_bytes(batch, night.reports);
+    put_words(batch, night.lengths);
+    put_words(batch, night.last);
+    put_words(batch, &lent.cells);
+    put_tokens(batch, &lent.room);
+    put_records(batch, &lent.table);
+    put_bytes(batch, &lent.sheet);
+    put_words(batch, &lent.out);
+}
+
 /// Adds a case.
 pub fn put(batch: &mut Vec<u8>, asked: &Asked) {
     batch.push(asked.call as u8 + 1);
@@ -82,6 +102,7 @@ pub fn put(batch: &mut Vec<u8>, asked: &Asked) {
             batch.extend(asked.mark.to_le_bytes());
             put_words(batch, &asked.lent.out);
         }
+        Call::Sheet => put_night(batch, &asked.night, asked.lent),
     }
 }
 
@@ -101,12 +122,19 @@ fn take_tokens(output: &mut &[u8], count: usize) -> Option<Vec<u16>> {
     Some(bytes.chunks_exact(2).map(|token| u16::from_le_bytes([token[0], token[1]])).collect())
 }
 
+fn take_records(output: &mut &[u8], count: usize) -> Option<Vec<Record>> {
+    let words = take_words(output, 3 * count)?;
+    Some(words.chunks_exact(3).map(|three| Record { turns: three[0], bytes: three[1], longest: three[2] }).collect())
+}
+
 /// What came out of the next case, to which so much was lent; nothing if the output breaks off.
 pub fn take(output: &mut &[u8], lent: &Lent) -> Option<Came> {
     let number = u32::from_le_bytes(take_bytes(output, 4)?.try_into().ok()?);
     let fell = take_bytes(output, 1)?[0];
     let cells = take_words(output, lent.cells.len())?;
     let room = take_tokens(output, lent.room.len())?;
+    let table = take_records(output, lent.table.len())?;
+    let sheet = take_bytes(output, lent.sheet.len())?.to_vec();
     let out = take_words(output, lent.out.len())?;
-    Some(Came { fell, left: Left { number, lent: Lent { cells, room, out } } })
+    Some(Came { fell, left: Left { number, lent: Lent { cells, room, table, sheet, out } } })
 }

@@ -9,6 +9,7 @@ use crate::options::Options;
 use crate::run;
 use crate::totals::Totals;
 use reference::lent::{first_tree_left, read_left, turns_left, verdict_left, Left, Lent};
+use reference::night::{sheet_left, Night};
 use std::ops::Range;
 use std::sync::Mutex;
 
@@ -16,8 +17,18 @@ fn case_of(options: &Options, number: u64) -> Case {
     make_calls::case(&mut Chance::of_case(options.seed, number))
 }
 
+fn night_of(case: &Case) -> Night<'_> {
+    case.night.as_ref().map_or(Night::default(), |made| made.night())
+}
+
 fn asked(case: &Case, call: Call) -> Asked<'_> {
-    Asked { call, pattern: &case.pattern, text: &case.text, row: &case.row, mark: case.mark, lent: &case.lent[call as usize] }
+    let lent = &case.lent[call as usize];
+    Asked { call, pattern: &case.pattern, text: &case.text, row: &case.row, mark: case.mark, night: night_of(case), lent }
+}
+
+/// The calls that a case is put through.
+fn calls_of(case: &Case) -> impl Iterator<Item = Call> + '_ {
+    CALLS.into_iter().filter(|call| *call != Call::Sheet || case.night.is_some())
 }
 
 /// What should come of a call, or nothing where the reference would have to work too long.
@@ -28,6 +39,7 @@ fn wanted(case: &Case, call: Call) -> Option<Left> {
         Call::FirstTree => case.whole.as_ref().map(|whole| first_tree_left(whole, case.text.len(), lent)),
         Call::Read => Some(read_left(&case.pattern, lent)),
         Call::Turns => Some(turns_left(&case.row, case.mark, lent)),
+        Call::Sheet => case.night.as_ref()?.wholes.as_ref().map(|wholes| sheet_left(&night_of(case), wholes, lent)),
     }
 }
 
@@ -44,6 +56,8 @@ fn wrong(came: &Left, wanted: &Left) -> String {
         difference("figures", &came.lent.out, &wanted.lent.out),
         difference("cells", &came.lent.cells, &wanted.lent.cells),
         difference("tree room", &came.lent.room, &wanted.lent.room),
+        difference("table", &came.lent.table, &wanted.lent.table),
+        difference("sheet", &came.lent.sheet, &wanted.lent.sheet),
     ];
     all.into_iter().flatten().collect::<Vec<_>>().join("; ")
 }
@@ -51,7 +65,7 @@ fn wrong(came: &Left, wanted: &Left) -> String {
 /// What is asked of a call, in words.
 fn in_words(case: &Case, call: Call) -> String {
     let pattern = format!("pattern \"{}\"", case.pattern.escape_ascii());
-    let Lent { cells, room, out } = &case.lent[call as usize];
+    let Lent { cells, room, table, sheet, out } = &case.lent[call as usize];
     match call {
         Call::Verdict => format!("{pattern} text \"{}\"", case.text.escape_ascii()),
         Call::FirstTree => {
@@ -63,7 +77,19 @@ fn in_words(case: &Case, call: Call) -> String {
             let row = &case.row;
             format!("mark {} in {} tokens, {:?}, with {} figures", case.mark, row.len(), &row[..row.len().min(60)], out.len())
         }
+        Call::Sheet => {
+            let (night, room, records) = (night_in_words(&night_of(case)), room.len(), table.len());
+            format!("{night}, with {} cells, room {room}, {records} records, {} bytes and {} figures", cells.len(), sheet.len(), out.len())
+        }
     }
+}
+
+/// A night, in words.
+fn night_in_words(night: &Night) -> String {
+    let (pattern, lengths) = (night.pattern.escape_ascii(), night.lengths);
+    let reports = night.reports[..night.reports.len().min(200)].escape_ascii();
+    let some = &lengths[..lengths.len().min(40)];
+    format!("pattern \"{pattern}\" {} reports of lengths {some:?}, \"{reports}\", last night {:?}", lengths.len(), night.last)
 }
 
 /// Notes one call of a case.
@@ -76,14 +102,14 @@ fn note(totals: &mut Totals, number: u64, case: &Case, call: Call, came: &Came) 
             totals.hold(number, *left == wanted, || format!("{}\n  {}", asked(), wrong(left, &wanted)));
             cover::meet(totals, case, call, &wanted);
         }
-        None => totals.skipped += u64::from(call == Call::FirstTree),
+        None => totals.skipped += u64::from(matches!(call, Call::FirstTree | Call::Sheet)),
     }
 }
 
 /// Runs the cases of one batch and notes them.
 pub fn one_batch(options: &Options, numbers: Range<u64>, totals: &Mutex<Totals>) -> Result<(), String> {
     let cases: Vec<(u64, Case)> = numbers.map(|number| (number, case_of(options, number))).collect();
-    let calls: Vec<(u64, &Case, Call)> = cases.iter().flat_map(|(number, case)| CALLS.map(|call| (*number, case, call))).collect();
+    let calls: Vec<(u64, &Case, Call)> = cases.iter().flat_map(|(number, case)| calls_of(case).map(move |call| (*number, case, call))).collect();
     let asked: Vec<Asked> = calls.iter().map(|(_, case, call)| asked(case, *call)).collect();
     let came = run::host_on(&options.host, &asked)?;
     let mut noted = Totals::default();
@@ -97,7 +123,7 @@ pub fn one_batch(options: &Options, numbers: Range<u64>, totals: &Mutex<Totals>)
 /// Prints one case of a run, with all that is lent.
 pub fn show(options: &Options, number: u64) {
     let case = case_of(options, number);
-    for call in CALLS {
+    for call in calls_of(&case) {
         println!("{}: {}\n  lent {:?}", call.name(), in_words(&case, call), case.lent[call as usize]);
     }
     println!("row {:?}", case.row);

@@ -1,6 +1,7 @@
 //! Which answers and edges the cases of the calls have met, and which a long run has to meet.
 
 use crate::batch::{Call, CALLS};
+use crate::cover_sheet;
 use crate::cover_turns;
 use crate::make_calls::Case;
 use crate::totals::Totals;
@@ -14,6 +15,7 @@ fn answers_of(call: Call) -> &'static [&'static str] {
         Call::FirstTree => &["0 flag 0", "0 flag 1", "1", "2", "3", "4", "5", "6", "7", "8", "9"],
         Call::Read => &["0", "1", "4", "5", "6", "7"],
         Call::Turns => &["0", "10"],
+        Call::Sheet => &["0", "1", "3", "4", "5", "6", "7", "12", "13", "14"],
     }
 }
 
@@ -106,6 +108,7 @@ fn edges(case: &Case, call: Call, left: &Left) -> Edges {
     match call {
         Call::FirstTree => [edges_of_lent(case, left), edges_of_refusals(case, left)].concat(),
         Call::Turns => cover_turns::edges(case, left),
+        Call::Sheet => cover_sheet::edges(case, left),
         Call::Verdict | Call::Read => edges_of_limits(case, call, left),
     }
 }

@@ -8,6 +8,7 @@ use crate::run;
 use crate::totals::Totals;
 use reference::answers::{desk_answer, lines, parts_of_input, verdict, whole, Effort};
 use reference::lent::Lent;
+use reference::night::Night;
 use std::ops::Range;
 use std::sync::Mutex;
 
@@ -106,7 +107,7 @@ pub fn expect(totals: &mut Totals) {
 }
 
 fn asked<'a>(case: &'a Case, lent: &'a Lent) -> Asked<'a> {
-    Asked { call: Call::Verdict, pattern: &case.pattern, text: &case.text, row: &[], mark: 0, lent }
+    Asked { call: Call::Verdict, pattern: &case.pattern, text: &case.text, row: &[], mark: 0, night: Night::default(), lent }
 }
 
 /// Runs the cases of one batch and notes them.

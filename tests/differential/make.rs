@@ -19,7 +19,7 @@ const LOOPS: [&str; 20] = [
 ];
 
 /// The letters that one case is made of.
-fn letters(chance: &mut Chance) -> Vec<u8> {
+pub fn letters(chance: &mut Chance) -> Vec<u8> {
     match chance.below(10) {
         0..=4 => b"ab".to_vec(),
         5 => b"a".to_vec(),
@@ -170,7 +170,7 @@ fn fitting(chance: &mut Chance, expression: &Expression, part: usize, turns: usi
 }
 
 /// A text for a pattern: one that fits, one that nearly does, or any.
-fn any_text(chance: &mut Chance, pattern: &[u8], letters: &[u8]) -> Vec<u8> {
+pub fn any_text(chance: &mut Chance, pattern: &[u8], letters: &[u8]) -> Vec<u8> {
     let kind = chance.below(10);
     if let (0..=7, Some(expression)) = (kind, pattern::read(pattern)) {
         let mut text = Vec::new();

@@ -1,8 +1,9 @@
-//! Makes cases for the calls: a pattern and a text, a row and a mark, what is lent to each call and what that holds before.
+//! Makes cases for the calls: a pattern and a text, a row and a mark, for some a night; what is lent to each call and what that holds before.
 
 use crate::batch::{Call, CALLS};
 use crate::chance::Chance;
 use crate::make::{self, repeated, wrapped, Shares};
+use crate::make_nights::{self, Made};
 use crate::make_rows;
 use reference::answers::{whole, Answer, Effort, MARK_LIMIT, TEXT_LIMIT};
 use reference::lent::Lent;
@@ -15,6 +16,8 @@ const EFFORT: Effort = Effort { steps: 3_000_000, tokens: 5_000 };
 /// the rest.
 const SEVERAL_REFUSALS: usize = 8;
 const EMPTY_TURNS: usize = 2;
+/// One case of so many has a night as well: much is lent to it.
+const NIGHT_ONE_IN: usize = 8;
 const SHARES: Shares = Shares { limits: 10, long: 1 };
 
 pub struct Case {
@@ -26,6 +29,8 @@ pub struct Case {
     pub whole: Option<Answer>,
     pub row: Vec<u16>,
     pub mark: u64,
+    /// some cases have one
+    pub night: Option<Made>,
     /// by call
     pub lent: [Lent; CALLS.len()],
 }
@@ -58,7 +63,7 @@ fn cell_count(chance: &mut Chance, length: usize) -> usize {
 }
 
 /// How many tokens to lend for a first tree of `length` tokens, where `longest` is the most that any tree of the case can have.
-fn room_count(chance: &mut Chance, length: usize, longest: usize) -> usize {
+pub fn room_count(chance: &mut Chance, length: usize, longest: usize) -> usize {
     match chance.below(20) {
         0..=4 => length,
         5..=8 => length.saturating_sub(1),
@@ -72,7 +77,7 @@ fn room_count(chance: &mut Chance, length: usize, longest: usize) -> usize {
     }
 }
 
-fn cells(chance: &mut Chance, count: usize) -> Vec<u64> {
+pub fn cells(chance: &mut Chance, count: usize) -> Vec<u64> {
     match chance.below(10) {
         0 => vec![u64::MAX; count],
         1 => vec![0; count],
@@ -92,7 +97,7 @@ pub fn tokens(chance: &mut Chance, count: usize) -> Vec<u16> {
 }
 
 /// A pattern and a text that are each refused, or not, for a ground of their own.
-fn several_refusals(chance: &mut Chance) -> (Vec<u8>, Vec<u8>) {
+pub fn several_refusals(chance: &mut Chance) -> (Vec<u8>, Vec<u8>) {
     let pattern = match chance.below(8) {
         0 => repeated(b"a", 513),
         1 => repeated(b"(", 600),
@@ -113,7 +118,7 @@ fn several_refusals(chance: &mut Chance) -> (Vec<u8>, Vec<u8>) {
 }
 
 /// `out` of any length up to three more than the figures, with any contents.
-fn out(chance: &mut Chance, call: Call) -> Vec<u64> {
+pub fn out(chance: &mut Chance, call: Call) -> Vec<u64> {
     let count = chance.below(call.figures() + 4);
     cells(chance, count)
 }
@@ -123,7 +128,8 @@ fn lent_to_tree(chance: &mut Chance, case: &Case, is_short_of_cells: bool) -> Le
     let length = case.text.len();
     let cell_count = if is_short_of_cells { chance.below(length + 1) } else { cell_count(chance, length) };
     let room_count = room_count(chance, case.first_row().len(), case.longest_tree());
-    Lent { cells: cells(chance, cell_count), room: tokens(chance, room_count), out: out(chance, Call::FirstTree) }
+    let (cells, room) = (cells(chance, cell_count), tokens(chance, room_count));
+    Lent { cells, room, out: out(chance, Call::FirstTree), ..Lent::default() }
 }
 
 /// A mark of the tree, where the token that is looked at is one of a mark.
@@ -151,7 +157,7 @@ fn mark(chance: &mut Chance, tree: &[u16]) -> u64 {
 }
 
 /// A pattern and a text that fits it, often with turns or choices of one mark over nothing and over some bytes.
-fn empty_turns(chance: &mut Chance) -> (Vec<u8>, Vec<u8>) {
+pub fn empty_turns(chance: &mut Chance) -> (Vec<u8>, Vec<u8>) {
     let pattern = chance.pick::<&[u8]>(&[b"((a*)+b)*", b"((a*|c)b)*", b"((a|())+b)+", b"((a?|b)+b?)*"]);
     let pieces = chance.between(1, 6);
     let text: Vec<&[u8]> = (0..pieces).map(|_| chance.pick::<&[u8]>(&[b"b", b"ab", b"aab"])).collect();
@@ -171,13 +177,18 @@ pub fn case(chance: &mut Chance) -> Case {
     let are_several = chance.percent(SEVERAL_REFUSALS);
     let (pattern, text) = if are_several { several_refusals(chance) } else { pattern_and_text(chance) };
     let (expression, whole) = (pattern::read(&pattern), whole(&pattern, &text, EFFORT).ok());
-    let mut case = Case { pattern, text, expression, whole, row: Vec::new(), mark: 0, lent: Default::default() };
+    let mut case = Case { pattern, text, expression, whole, row: Vec::new(), mark: 0, night: None, lent: Default::default() };
     let is_short_of_cells = are_several && chance.percent(50);
     case.lent[Call::FirstTree as usize] = lent_to_tree(chance, &case, is_short_of_cells);
     case.mark = mark(chance, case.first_row());
     case.row = make_rows::row(chance, case.first_row(), case.mark);
     for call in [Call::Read, Call::Turns] {
         case.lent[call as usize].out = out(chance, call);
+    }
+    if chance.below(NIGHT_ONE_IN) == 0 {
+        let (night, lent) = make_nights::night(chance);
+        case.night = Some(night);
+        case.lent[Call::Sheet as usize] = lent;
     }
     case
 }

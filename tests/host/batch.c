@@ -108,7 +108,7 @@ void run_batch(enum form form)
     unsigned long number;
     size_t which;
     for (number = 0; read_number(1, &which); number++) {
-        if (which < VERDICT || which > TURNS) {
+        if (which < VERDICT || which > NIGHT) {
             give_up("no such call");
         }
         run_case((enum call)which, number, form);

@@ -5,17 +5,34 @@
 
 #include <string.h>
 
-const size_t input_sizes[INPUTS] = {1, 1, sizeof(uint16_t)};
-const size_t lent_sizes[LENT] = {sizeof(uint64_t), sizeof(uint16_t), sizeof(uint64_t)};
+const size_t input_sizes[INPUTS] = {1, 1, sizeof(uint16_t), 1, sizeof(uint64_t), sizeof(uint64_t)};
+const size_t lent_sizes[LENT] = {sizeof(uint64_t), sizeof(uint16_t), sizeof(struct dimmhalt_record), 1, sizeof(uint64_t)};
 
 int takes_input(enum call call, enum input which)
 {
-    return which == ROW ? call == TURNS : which == TEXT ? call == VERDICT || call == FIRST_TREE : call != TURNS;
+    switch (which) {
+    case PATTERN:
+        return call != TURNS;
+    case TEXT:
+        return call == VERDICT || call == FIRST_TREE;
+    case ROW:
+        return call == TURNS;
+    default:
+        return call == NIGHT;
+    }
 }
 
 int takes_lent(enum call call, enum lent which)
 {
-    return which == OUT ? call != VERDICT : call == FIRST_TREE;
+    switch (which) {
+    case CELLS:
+    case TREE:
+        return call == FIRST_TREE || call == NIGHT;
+    case OUT:
+        return call != VERDICT;
+    default:
+        return call == NIGHT;
+    }
 }
 
 static void empty_rows(struct row *rows, size_t count)
@@ -147,6 +164,22 @@ static size_t pieces(const struct asked *asked, enum lent which)
     return asked->lent[which].length / lent_sizes[which];
 }
 
+static size_t input_pieces(const struct asked *asked, enum input which)
+{
+    return asked->inputs[which].length / input_sizes[which];
+}
+
+static uint32_t call_sheet_with(const struct asked *asked, const struct row *blocks, size_t start)
+{
+    const struct row *inputs = asked->inputs;
+    const void *lengths = inputs[LENGTHS].bytes, *last = inputs[LAST].bytes;
+    void *cells = blocks[CELLS].bytes + start, *tree = blocks[TREE].bytes + start, *table = blocks[TABLE].bytes + start;
+    void *out = blocks[OUT].bytes + start;
+    return dimmhalt_sheet(inputs[PATTERN].bytes, inputs[PATTERN].length, inputs[REPORTS].bytes, inputs[REPORTS].length, lengths,
+                          input_pieces(asked, LENGTHS), last, input_pieces(asked, LAST), cells, pieces(asked, CELLS), tree, pieces(asked, TREE),
+                          table, pieces(asked, TABLE), blocks[SHEET].bytes + start, pieces(asked, SHEET), out, pieces(asked, OUT));
+}
+
 /* The call itself. What is lent starts so many bytes into the blocks, and is as long as in the case. */
 static uint32_t call_with(const struct asked *asked, const struct row *blocks, size_t start)
 {
@@ -162,7 +195,9 @@ static uint32_t call_with(const struct asked *asked, const struct row *blocks, s
     case READ:
         return dimmhalt_read(inputs[PATTERN].bytes, inputs[PATTERN].length, out, pieces(asked, OUT));
     case TURNS:
-        return dimmhalt_turns(row, inputs[ROW].length / input_sizes[ROW], asked->mark, out, pieces(asked, OUT));
+        return dimmhalt_turns(row, input_pieces(asked, ROW), asked->mark, out, pieces(asked, OUT));
+    case NIGHT:
+        return call_sheet_with(asked, blocks, start);
     }
     give_up("no such call");
     return 0;

@@ -6,13 +6,13 @@
 
 #include <stdint.h>
 
-enum call { VERDICT = 1, FIRST_TREE = 2, READ = 3, TURNS = 4 };
+enum call { VERDICT = 1, FIRST_TREE = 2, READ = 3, TURNS = 4, NIGHT = 5 };
 
-/* What is only read: the bytes of the pattern and of the text, and a row of tokens. */
-enum input { PATTERN, TEXT, ROW, INPUTS };
+/* What is only read: the bytes of the pattern and of the text, a row of tokens; the bytes of all reports, their lengths and last night's turns. */
+enum input { PATTERN, TEXT, ROW, REPORTS, LENGTHS, LAST, INPUTS };
 
 /* What is lent to write. */
-enum lent { CELLS, TREE, OUT, LENT };
+enum lent { CELLS, TREE, TABLE, SHEET, OUT, LENT };
 
 /* How many bytes one piece of them has. */
 extern const size_t input_sizes[INPUTS];

@@ -46,6 +46,21 @@ struct row dirty_room(size_t count)
     return room;
 }
 
+struct row dirty_table(size_t count)
+{
+    return dirty(count * (sizeof(struct dimmhalt_record) / sizeof(uint64_t)), UINT64_C(0xa5a5a5a500000001));
+}
+
+struct row dirty_sheet(size_t count)
+{
+    struct row sheet = new_row(count);
+    size_t at;
+    for (at = 0; at < count; at++) {
+        sheet.bytes[at] = (unsigned char)(128 + at % 101);
+    }
+    return sheet;
+}
+
 struct row dirty_out(size_t count)
 {
     return dirty(count, UINT64_C(0xc3c3c3c300000001));
@@ -58,9 +73,21 @@ struct row out_with(size_t count, const uint64_t *figures, size_t named)
     return out;
 }
 
+struct row under_64_marks(void)
+{
+    uint16_t tokens[129];
+    uint16_t mark;
+    for (mark = 1; mark <= 64; mark++) {
+        tokens[mark - 1] = DIMMHALT_OPENS(mark);
+        tokens[129 - mark] = DIMMHALT_CLOSES(mark);
+    }
+    tokens[64] = DIMMHALT_BYTE('a');
+    return bytes_of(tokens, sizeof tokens);
+}
+
 void hold(const char *what, struct asked asked, struct left wanted)
 {
-    static const char *const names[LENT] = {"cells", "tree room", "figures"};
+    static const char *const names[LENT] = {"cells", "tree room", "table", "sheet", "figures"};
     struct left left = call(&asked, passed + failed);
     size_t which;
     note(left.number == wanted.number, what, "number");
@@ -81,6 +108,8 @@ int run_fixed(void)
     hold_first_trees();
     hold_reads();
     hold_turns();
+    hold_sheets();
+    hold_refused_sheets();
     printf("host: %u passed, %u failed\n", passed, failed);
     return failed == 0 ? 0 : 1;
 }

@@ -127,19 +127,6 @@ static void hold_places(void)
     hold_no_tree("", 0);
 }
 
-/* The row of a letter under marks 1 to 64. */
-static struct row under_64_marks(void)
-{
-    uint16_t tokens[129];
-    uint16_t mark;
-    for (mark = 1; mark <= 64; mark++) {
-        tokens[mark - 1] = O(mark);
-        tokens[129 - mark] = C(mark);
-    }
-    tokens[64] = B('a');
-    return bytes_of(tokens, sizeof tokens);
-}
-
 static void hold_limits(void)
 {
     const uint16_t turn[] = {O(1), B('a'), C(1)}, letter[] = {B('a')};

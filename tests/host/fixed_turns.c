@@ -1,10 +1,7 @@
-/*
- * The turn count held to rows that are trees and to rows that are none, with `out` of every length up to three more than the count. A row
- * is written in the desk's words, oH, cH and bB; a number alone is that token.
- */
+/* The turn count held to rows that are trees and to rows that are none, with `out` of every length up to three more than the count. */
 #include "fixed.h"
+#include "words.h"
 
-#include <stdlib.h>
 #include <string.h>
 
 /* How many tokens the long rows have. To look for its closing behind each opening would take hours. */
@@ -94,33 +91,6 @@ static const struct counted no_marks[] = {
     {"65535 b97 127", UINT64_MAX, 0},
     {"o64 b97 c64", UINT64_MAX - 63, 0},
 };
-
-/* The token of a word, and where it ends. */
-static uint16_t token_of(const char *word, const char **end)
-{
-    const unsigned long from = *word == 'b' ? DIMMHALT_BYTE(0) : *word == 'c' ? DIMMHALT_CLOSES(0) : 0;
-    const char *digits = strchr("ocb", *word) != NULL ? word + 1 : word;
-    char *behind;
-    unsigned long number = strtoul(digits, &behind, 10);
-    if (behind == digits || from + number > UINT16_MAX) {
-        give_up("no token");
-    }
-    *end = behind + strspn(behind, " ");
-    return (uint16_t)(from + number);
-}
-
-/* The row that is written in words. It has no more tokens than they have letters. */
-static struct row row_of(const char *words)
-{
-    struct row row = new_row(strlen(words) * sizeof(uint16_t));
-    row.length = 0;
-    while (*words != '\0') {
-        uint16_t token = token_of(words, &words);
-        memcpy(row.bytes + row.length, &token, sizeof token);
-        row.length += sizeof token;
-    }
-    return row;
-}
 
 /* Frees the row. */
 static void hold_with_out(size_t out, const char *what, struct row row, uint64_t mark, uint32_t number, uint64_t count)

@@ -11,8 +11,10 @@
  *     2, the first tree: the same; the cells, in 8 bytes each; the tree room, in 2 bytes a token; `out`, in 8 bytes a figure
  *     3, the reading of a pattern: the pattern; `out`
  *     4, the turn count: the row, in 2 bytes a token; the mark, in 8 bytes; `out`
- * What came out of it is the number in 4 bytes; one byte, 0 where all that should stay has stayed (calls.h); then the cells, the tree room
- * and `out`, as far as the call takes them, without their lengths. With --lines it is a line: the number, and what `out` holds.
+ *     5, the night sheet: the pattern; the bytes of all reports; their lengths and last night's turns, in 8 bytes each; the cells; the tree
+ *        room; the table, in three times 8 bytes a record; the bytes for the sheet; `out`
+ * What came out of it is the number in 4 bytes; one byte, 0 where all that should stay has stayed (calls.h); then the cells, the tree room,
+ * the table, the sheet and `out`, as far as the call takes them, without their lengths. With --lines it is a line: the number, and what `out` holds.
  */
 #define _POSIX_C_SOURCE 200112L
 

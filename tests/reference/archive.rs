@@ -2,6 +2,7 @@
 
 use reference::answers::{self, Answer};
 use reference::lent::{first_tree_left, read_left, turns_left, verdict_left, Left, Lent};
+use reference::night::{sheet_left, Night, Record};
 use std::slice::{from_raw_parts, from_raw_parts_mut};
 
 const EFFORT: answers::Effort = answers::Effort { steps: 20_000_000, tokens: 0 };
@@ -85,4 +86,44 @@ pub unsafe extern "C" fn dimmhalt_read(pattern: *const u8, pattern_length: usize
 pub unsafe extern "C" fn dimmhalt_turns(row: *const u16, row_length: usize, mark: u64, out: *mut u64, out_length: usize) -> u32 {
     let (out, before) = figures(out, out_length);
     told(&turns_left(from_raw_parts(row, row_length), mark, &before), out)
+}
+
+/// # Safety
+/// As for the first tree.
+#[no_mangle]
+pub unsafe extern "C" fn dimmhalt_sheet(
+    pattern: *const u8,
+    pattern_length: usize,
+    reports: *const u8,
+    reports_length: usize,
+    lengths: *const u64,
+    lengths_length: usize,
+    last: *const u64,
+    last_length: usize,
+    cells: *mut u64,
+    cells_length: usize,
+    tree: *mut u16,
+    tree_length: usize,
+    table: *mut Record,
+    table_length: usize,
+    sheet: *mut u8,
+    sheet_length: usize,
+    out: *mut u64,
+    out_length: usize,
+) -> u32 {
+    let (pattern, reports) = (from_raw_parts(pattern, pattern_length), from_raw_parts(reports, reports_length));
+    let night = Night { pattern, reports, lengths: from_raw_parts(lengths, lengths_length), last: from_raw_parts(last, last_length) };
+    let (cells, tree) = (from_raw_parts_mut(cells, cells_length), from_raw_parts_mut(tree, tree_length));
+    let (table, sheet) = (from_raw_parts_mut(table, table_length), from_raw_parts_mut(sheet, sheet_length));
+    let (out, before) = figures(out, out_length);
+    let before = Lent { cells: cells.to_vec(), room: tree.to_vec(), table: table.to_vec(), sheet: sheet.to_vec(), ..before };
+    let left = on_large_stack(pattern_length + reports_length, || {
+        night.wholes(EFFORT).ok().map(|wholes| sheet_left(&night, &wholes, &before))
+    });
+    let Some(left) = left else { return answers::TOO_MUCH };
+    cells.copy_from_slice(&left.lent.cells);
+    tree.copy_from_slice(&left.lent.room);
+    table.copy_from_slice(&left.lent.table);
+    sheet.copy_from_slice(&left.lent.sheet);
+    told(&left, out)
 }

@@ -1,12 +1,16 @@
-//! What the calls answer and leave: the cells, the tree room and `out`, as the table of answers has them.
+//! What the calls answer and leave: the cells, the tree room and `out`, as the table of answers has them. The night sheet has a file of its
+//! own.
 
 use crate::answers::{read, verdict, with_lent, Answer, MARK_LIMIT};
+use crate::night::Record;
 
 /// What is lent to a call, before it or after it. What the call does not take is empty.
 #[derive(Clone, Debug, Default, PartialEq, Eq)]
 pub struct Lent {
     pub cells: Vec<u64>,
     pub room: Vec<u16>,
+    pub table: Vec<Record>,
+    pub sheet: Vec<u8>,
     pub out: Vec<u64>,
 }
 
@@ -18,12 +22,12 @@ pub struct Left {
 }
 
 /// `front`, and the rest of `before` unchanged.
-fn written<T: Clone>(front: &[T], before: &[T]) -> Vec<T> {
+pub fn written<T: Clone>(front: &[T], before: &[T]) -> Vec<T> {
     [front, &before[front.len()..]].concat()
 }
 
 /// The figures at the front of `out`, as many as it is long.
-fn figured(figures: &[usize], out: &[u64]) -> Vec<u64> {
+pub fn figured(figures: &[usize], out: &[u64]) -> Vec<u64> {
     let fitting: Vec<u64> = figures.iter().take(out.len()).map(|&figure| figure as u64).collect();
     written(&fitting, out)
 }
@@ -41,7 +45,7 @@ pub fn first_tree_left(whole: &Answer, length: usize, lent: &Lent) -> Left {
     let cells = written(&vec![0; asked_for], &lent.cells);
     let room = written(&answer.row, &lent.room);
     let out = figured(&[answer.value, answer.flag as usize], &lent.out);
-    Left { number: answer.number, lent: Lent { cells, room, out } }
+    Left { number: answer.number, lent: Lent { cells, room, out, ..Lent::default() } }
 }
 
 /// The reading of a pattern.

@@ -4,8 +4,10 @@
 pub mod answers;
 pub mod keepers;
 pub mod lent;
+pub mod night;
 pub mod pattern;
 pub mod self_test;
+mod self_test_sheet;
 mod self_test_turns;
 pub mod stretches;
 pub mod trees;

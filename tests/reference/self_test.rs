@@ -3,6 +3,7 @@
 use crate::answers::{answer, desk_answer, lines, read, verdict, whole, Effort};
 use crate::lent::{first_tree_left, read_left, turns_left, verdict_left, Left, Lent};
 use crate::pattern;
+use crate::self_test_sheet;
 use crate::self_test_turns;
 
 pub const EFFORT: Effort = Effort { steps: 50_000_000, tokens: 2_000_000 };
@@ -92,7 +93,7 @@ fn places(checks: &mut Checks) {
 }
 
 /// `inner` between `times` of `before` and `after`.
-fn wrapped(times: usize, before: &str, inner: &str, after: &str) -> Vec<u8> {
+pub fn wrapped(times: usize, before: &str, inner: &str, after: &str) -> Vec<u8> {
     (before.repeat(times) + inner + &after.repeat(times)).into_bytes()
 }
 
@@ -137,11 +138,11 @@ fn desk(checks: &mut Checks) {
 /// What is left of five cells that hold 7, eight tokens that hold 9 and three figures that hold 5, by each line of the table of answers.
 fn lent(checks: &mut Checks) {
     let left = |pattern: &[u8], text: &[u8], cells: usize, room: usize| {
-        let lent = Lent { cells: vec![7; cells], room: vec![9; room], out: vec![5; 3] };
+        let lent = Lent { cells: vec![7; cells], room: vec![9; room], out: vec![5; 3], ..Lent::default() };
         whole(pattern, text, EFFORT).ok().map(|whole| first_tree_left(&whole, text.len(), &lent))
     };
     let wanted = |number, value, flag, cells: &[u64], room: &[u16]| {
-        Some(Left { number, lent: Lent { cells: cells.to_vec(), room: room.to_vec(), out: vec![value, flag, 5] } })
+        Some(Left { number, lent: Lent { cells: cells.to_vec(), room: room.to_vec(), out: vec![value, flag, 5], ..Lent::default() } })
     };
     let row = [1, 353, 129, 1, 353, 129];
     let (cells, room) = (&[7; 5][..], &[9; 8][..]);
@@ -163,7 +164,7 @@ fn lent(checks: &mut Checks) {
 
 /// As many figures are written as `out` is long, and the rest of it is unchanged.
 fn figures(checks: &mut Checks) {
-    let lent = |length: usize| Lent { cells: vec![7; 2], room: vec![9; 3], out: vec![5; length] };
+    let lent = |length: usize| Lent { cells: vec![7; 2], room: vec![9; 3], out: vec![5; length], ..Lent::default() };
     let two_trees = whole(b"a|a", b"a", EFFORT).expect("an example costs little");
     for (length, wanted) in [(0, vec![]), (1, vec![3]), (2, vec![3, 1]), (3, vec![3, 1, 5]), (5, vec![3, 1, 5, 5, 5])] {
         checks.same("figures of the first tree", first_tree_left(&two_trees, 1, &lent(length)).lent.out, wanted);
@@ -249,6 +250,7 @@ pub fn run() -> bool {
     figures(&mut checks);
     patterns(&mut checks);
     self_test_turns::run(&mut checks);
+    self_test_sheet::run(&mut checks);
     completions(&mut checks);
     reaches(&mut checks);
     println!("reference: {} passed, {} failed", checks.passed, checks.failed);

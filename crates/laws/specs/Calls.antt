@@ -3,9 +3,11 @@ use mathlib.Core.Path.{_≡_, sym, ap, _∙_}
 use mathlib.Core.List.{List, [], _∷_}
 use Prim.Native.Nat.{ℕ}
 use Rattle.meaning.specs.ReadPattern.{ReadPattern}
-use Rattle.meaning.specs.Calls.{in-front, FirstTreeCall, ReadCall, TurnsCall}
+use Rattle.meaning.specs.declared.Record.{Record}
+use Rattle.meaning.specs.Calls.{in-front, FirstTreeCall, ReadCall, TurnsCall, SheetCall}
 use Rattle.grammar.specs.ReadPromise.{read-one}
 use Rattle.laws.specs.Promises.{answered-one, counted-one}
+use Rattle.laws.specs.SheetPromise.{sheeted-one}
 
 -- the same figures leave the same out
 same-out : (out figures figures′ : List ℕ) {out₁ out₂ : List ℕ} → figures ≡ figures′ → out₁ ≡ in-front figures out → out₂ ≡ in-front figures′ out → out₁ ≡ out₂
@@ -29,3 +31,11 @@ pub turns-call-one : {row out out₁ out₂ : List ℕ} {mark r r′ : ℕ} → 
 turns-call-one {out = out} a b =
     let z = counted-one (a .counted) (b .counted) in
     (z .0, same-out out _ _ (ap (λ (c : ℕ). c ∷ []) (z .1)) (a .told) (b .told))
+
+pub sheet-call-one : {pat bytes lengths last cells room sheet out cells₁ cells₂ room₁ room₂ sheet₁ sheet₂ out₁ out₂ : List ℕ} {table table₁ table₂ : List Record} {r r′ : ℕ}
+    → SheetCall pat bytes lengths last cells room table sheet out r cells₁ room₁ table₁ sheet₁ out₁
+    → SheetCall pat bytes lengths last cells room table sheet out r′ cells₂ room₂ table₂ sheet₂ out₂
+    → (r ≡ r′) × (cells₁ ≡ cells₂) × (room₁ ≡ room₂) × (table₁ ≡ table₂) × (sheet₁ ≡ sheet₂) × (out₁ ≡ out₂)
+sheet-call-one {out = out} a b =
+    let z = sheeted-one (a .sheeted) (b .sheeted) in
+    (z .0, z .2, z .3, z .4, z .5, same-out out _ _ (ap (λ (v : ℕ). v ∷ []) (z .1)) (a .told) (b .told))

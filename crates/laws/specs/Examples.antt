@@ -2,14 +2,17 @@
 use mathlib.Core.Path.{_≡_, refl}
 use mathlib.Core.List.{List, [], _∷_}
 use Prim.Native.Nat.{ℕ}
-use Rattle.meaning.specs.Expression.{Re, pos, cat, alt, branch, opt, marks, size}
+use Rattle.meaning.specs.declared.Record.{Record}
+use Rattle.meaning.specs.Expression.{Re, pos, cat, alt, branch, star, opt, marks, size}
 use Rattle.meaning.specs.Grammar.{any, only}
 use Rattle.meaning.specs.Tree.{erase}
 use Rattle.meaning.specs.Limits.{room-for}
 use Rattle.meaning.specs.ReadPattern.{nodes, kinds, args, binary, word}
-use Rattle.meaning.specs.Turns.{some-token, up-to-closing, turn-count}
+use Rattle.meaning.specs.Turns.{some-token, up-to-closing, turn-count, bytes-in, bytes-read, longest-turn}
 use Rattle.meaning.specs.Promise.{cleared, written}
 use Rattle.meaning.specs.Desk.{pattern-in, text-in, digits, answer-line, token, tokens, tree-line, desk-lines}
+use Rattle.meaning.specs.Night.{sum, greatest, reports-in, records}
+use Rattle.meaning.specs.Sheet.{lines, mark-lines, change-lines, sheet-text, tonight}
 
 -- (a|ab)b? and its row for ab: o1 a c1 o3 b c3
 shown : Re
@@ -131,3 +134,44 @@ no-tokens = refl
 refusal : desk-lines 9 8194 0 [] ≡ 65 ∷ 78 ∷ 83 ∷ 87 ∷ 69 ∷ 82 ∷ 32 ∷ 57 ∷ 32 ∷ 56 ∷ 49 ∷ 57 ∷ 52 ∷ 32 ∷ 48 ∷ 10 ∷ []
 unfolding desk-lines answer-line digits
 refusal = refl
+
+-- o1 a b c1 o1 a c1: three bytes in two turns, the longer of two; and o1 o1 a c1, where both openings have the byte
+bytes-of-turns : bytes-read 1 (1 ∷ 353 ∷ 354 ∷ 129 ∷ 1 ∷ 353 ∷ 129 ∷ []) ≡ 3
+unfolding bytes-read some-token up-to-closing bytes-in
+bytes-of-turns = refl
+
+longest-of-turns : longest-turn 1 (1 ∷ 353 ∷ 354 ∷ 129 ∷ 1 ∷ 353 ∷ 129 ∷ []) ≡ 2
+unfolding longest-turn some-token up-to-closing bytes-in
+longest-of-turns = refl
+
+no-tree-bytes : bytes-read 1 (1 ∷ 1 ∷ 353 ∷ 129 ∷ []) ≡ 2
+unfolding bytes-read some-token up-to-closing bytes-in
+no-tree-bytes = refl
+
+-- a night under (a|b)*: the reports ab, an empty one and x
+night-reports : reports-in (2 ∷ 0 ∷ 1 ∷ []) (97 ∷ 98 ∷ 120 ∷ []) ≡ (97 ∷ 98 ∷ []) ∷ [] ∷ (120 ∷ []) ∷ []
+unfolding reports-in
+night-reports = refl
+
+-- the rows that count: o1 o2 a c2 c1 o1 o3 b c3 c1, and two that are empty
+night-rows : List (List ℕ)
+night-rows = (1 ∷ 2 ∷ 353 ∷ 130 ∷ 129 ∷ 1 ∷ 3 ∷ 354 ∷ 131 ∷ 129 ∷ []) ∷ [] ∷ [] ∷ []
+
+night-records : List Record
+night-records = record { turns = 2; bytes = 2; longest = 1 } ∷ record { turns = 1; bytes = 1; longest = 1 } ∷ record { turns = 1; bytes = 1; longest = 1 } ∷ []
+
+night-figures : tonight (star (alt (branch (pos (only 97))) (branch (pos (only 98))))) night-rows ≡ night-records
+unfolding night-rows night-records marks records sum greatest turn-count bytes-read longest-turn some-token up-to-closing bytes-in
+night-figures = refl
+
+-- 3, 0, 0, 8; 3, 2, 2, 1, 1, 1, 1, 1, 1, 1; 3, -3, 0, +1
+night-sheet : sheet-text (0 ∷ 0 ∷ 8 ∷ []) night-records (5 ∷ 1 ∷ 0 ∷ []) ≡ 51 ∷ 10 ∷ 48 ∷ 10 ∷ 48 ∷ 10 ∷ 56 ∷ 10 ∷
+    51 ∷ 10 ∷ 50 ∷ 10 ∷ 50 ∷ 10 ∷ 49 ∷ 10 ∷ 49 ∷ 10 ∷ 49 ∷ 10 ∷ 49 ∷ 10 ∷ 49 ∷ 10 ∷ 49 ∷ 10 ∷ 49 ∷ 10 ∷
+    51 ∷ 10 ∷ 45 ∷ 51 ∷ 10 ∷ 48 ∷ 10 ∷ 43 ∷ 49 ∷ 10 ∷ []
+unfolding night-records sheet-text lines mark-lines change-lines digits
+night-sheet = refl
+
+-- no report, and a pattern without marks
+empty-sheet : sheet-text [] [] [] ≡ 48 ∷ 10 ∷ 48 ∷ 10 ∷ 48 ∷ 10 ∷ []
+unfolding sheet-text lines mark-lines change-lines digits
+empty-sheet = refl

@@ -21,10 +21,10 @@ flag-one (alone x) (another o) = absurd (x o)
 flag-one (alone x) (alone x′) = refl
 
 -- number, value, flag and room of two outcomes
-abbrev Same : ℕ → ℕ → ℕ → List ℕ → ℕ → ℕ → ℕ → List ℕ → Type 0
+abbrev pub Same : ℕ → ℕ → ℕ → List ℕ → ℕ → ℕ → ℕ → List ℕ → Type 0
 Same n v f room n′ v′ f′ room′ = (n ≡ n′) × (v ≡ v′) × (f ≡ f′) × (room ≡ room′)
 
-judged-one : {e : Re} {s room room₁ room₂ : List ℕ} {n v f n′ v′ f′ : ℕ} → Judged e s room n v f room₁ → Judged e s room n′ v′ f′ room₂ → Same n v f room₁ n′ v′ f′ room₂
+pub judged-one : {e : Re} {s room room₁ room₂ : List ℕ} {n v f n′ v′ f′ : ℕ} → Judged e s room n v f room₁ → Judged e s room n′ v′ f′ room₂ → Same n v f room₁ n′ v′ f′ room₂
 judged-one (Judged.no-tree x l) (Judged.no-tree x′ l′) = (refl, longest-unique l l′, refl, refl)
 judged-one (Judged.no-tree x l) (small-room a h) = absurd (x _ (a .tree))
 judged-one (Judged.no-tree x l) (Judged.tree a h b) = absurd (x _ (a .tree))

@@ -2,37 +2,19 @@
 use mathlib.Core.Path.{_≡_, sym, ap}
 use mathlib.Core.Bool.{Bool, true, false, cond}
 use mathlib.Core.List.{List, [], _∷_, _++_, append-nil, append-assoc}
-use Prim.Native.Nat.{ℕ, zero, suc, _+_, _-_, _/_, _%_, _^_, _≤_, _<_}
-use native.Mathlib.Nat.{pow-suc}
+use Prim.Native.Nat.{ℕ, _+_, _-_, _/_, _%_, _^_, _≤_, _<_}
 use native.Mathlib.Numerals.{add-one}
 use native.Mathlib.Omega.{arith}
 use lib.Dec.{ltb}
-use lib.ListN.{length, take, getD, length-append}
+use lib.ListN.{length, take, getD}
 use lib.Seq.{take-suc}
 use borrow.Author.Tests.{lt-ltb, le-ltb, eq-eqb, ne-eqb}
 use Rattle.meaning.specs.Desk.{digits, token, tokens, answer-line, tree-line, desk-lines}
+use Rattle.laws.specs.Digits.{digits-length, digits-enough, digits-few}
 use Rattle.lines.specs.Wrote.{Wrote}
 use Rattle.lines.proofs.WroteLaws.{wrote-none, wrote-then}
 
 -- ---- digits
-
-one-more : (b : Bool) (x y k : ℕ) (l : List ℕ) → length l ≤ k → length (cond b (x ∷ []) (l ++ (y ∷ []))) ≤ suc k
-one-more true x y k l h = omega arith
-one-more false x y k l h = rw length-append (omega arith)
-
-pub digits-length : (k n : ℕ) → length (digits k n) ≤ k
-unfolding digits
-digits-length zero n = omega arith
-digits-length (suc k) n = one-more (ltb n 10) _ _ k (digits k (n / 10)) (digits-length k (n / 10))
-
--- where k digits suffice, more allow no others
-pub digits-enough : (k j n : ℕ) → k ≤ j → n < 10 ^ suc k → digits (suc j) n ≡ digits (suc k) n
-unfolding digits
-digits-enough zero j n h b = rw (lt-ltb n 10 b)
-digits-enough (suc k) zero n h b = absurd (omega arith)
-digits-enough (suc k) (suc j) n h b =
-    let b′ : n / 10 < 10 ^ suc k = omega (arith, pow-suc 10 (suc k)) in
-    rw (digits-enough k j (n / 10) (omega arith) b′)
 
 digits-one : (n : ℕ) → n < 10 → digits 20 n ≡ (48 + n % 10) ∷ []
 unfolding digits
@@ -61,7 +43,7 @@ wrote-low n b h a l = rw (digits-more n b h) (wrote-then a l)
 -- ---- tokens
 
 few-digits : (n : ℕ) → n < 65536 → length (digits 20 n) ≤ 5
-few-digits n h = rw (digits-enough 4 19 n (omega arith) (omega arith)) (digits-length 5 n)
+few-digits n h = digits-few 4 n (omega arith) (omega arith)
 
 -- a token of sixteen bits has at most seven bytes
 pub token-length : (t : ℕ) → t < 65536 → length (token t) ≤ 7

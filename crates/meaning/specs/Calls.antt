@@ -6,6 +6,8 @@ use Prim.Native.Nat.{ℕ}
 use lib.ListN.{length, take, drop}
 use Rattle.meaning.specs.Promise.{Answered, Read, Counted}
 use Rattle.meaning.specs.ReadPattern.{ReadPattern}
+use Rattle.meaning.specs.declared.Record.{Record}
+use Rattle.meaning.specs.Sheet.{Sheeted}
 
 -- the figures in their order, as far as out is long; the rest of it as it was
 abbrev pub in-front : List ℕ → List ℕ → List ℕ
@@ -30,3 +32,10 @@ pub record TurnsCall (row : List ℕ) (mark : ℕ) (out : List ℕ) (r : ℕ) (o
   pub count : ℕ
   pub counted : Counted row mark r count
   pub told : out′ ≡ in-front (count ∷ []) out
+
+-- dimmhalt_sheet: value
+pub record SheetCall (pat bytes lengths last cells room : List ℕ) (table : List Record) (sheet out : List ℕ) (r : ℕ)
+    (cells′ room′ : List ℕ) (table′ : List Record) (sheet′ out′ : List ℕ) : Type 0 where
+  pub value : ℕ
+  pub sheeted : Sheeted pat bytes lengths last cells room table sheet r value cells′ room′ table′ sheet′
+  pub told : out′ ≡ in-front (value ∷ []) out

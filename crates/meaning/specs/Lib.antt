@@ -7,5 +7,7 @@ pub mod ReadPattern
 pub mod Turns
 pub mod Promise
 pub mod Desk
+pub mod Night
+pub mod Sheet
 pub mod Readings
 pub mod Calls

@@ -25,3 +25,16 @@ cells-for n = n + 1
 -- no tree of n bytes with M marks has more tokens
 abbrev pub room-for : ℕ → ℕ → ℕ
 room-for M n = n + 2 * (M * max n 1)
+
+-- of a night: reports, last night's turns of a mark, work cells and bytes of the sheet that are lent
+abbrev pub report-limit : ℕ
+report-limit = 1000
+
+abbrev pub last-limit : ℕ
+last-limit = 4096000
+
+abbrev pub night-cells : ℕ
+night-cells = 4097
+
+abbrev pub sheet-bytes : ℕ
+sheet-bytes = 8192

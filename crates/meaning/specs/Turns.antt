@@ -1,7 +1,8 @@
--- The turn count of a mark in a row of tokens, which need not be a tree. Assumes nothing: these are definitions.
+-- The counted turns of a mark in a row of tokens, which need not be a tree: how many they are, and how many bytes they read. Assumes nothing:
+-- these are definitions.
 use mathlib.Core.Bool.{Bool, false, _&&_, _||_, cond}
 use mathlib.Core.List.{List, [], _∷_}
-use Prim.Native.Nat.{ℕ, _+_}
+use Prim.Native.Nat.{ℕ, _+_, max}
 use lib.Dec.{eqb}
 use Rattle.meaning.specs.Grammar.{range}
 
@@ -33,3 +34,21 @@ is-counted h row = some-token (closes h) row && some-token is-byte (up-to-closin
 unfoldable pub turn-count : ℕ → List ℕ → ℕ
 turn-count h [] = 0
 turn-count h (t ∷ row) = cond (opens h t && is-counted h row) 1 0 + turn-count h row
+
+-- how many tokens of a row are byte tokens
+unfoldable pub bytes-in : List ℕ → ℕ
+bytes-in [] = 0
+bytes-in (t ∷ row) = cond (is-byte t) 1 0 + bytes-in row
+
+-- how many bytes the turn of h read that t opens, where this row stands behind it; 0, where t opens none that is counted
+abbrev pub turn-bytes : ℕ → ℕ → List ℕ → ℕ
+turn-bytes h t row = cond (opens h t && is-counted h row) (bytes-in (up-to-closing h row)) 0
+
+-- how many bytes the counted turns of h in a row read, and how many the longest of them read; 0, where there is none
+unfoldable pub bytes-read : ℕ → List ℕ → ℕ
+bytes-read h [] = 0
+bytes-read h (t ∷ row) = turn-bytes h t row + bytes-read h row
+
+unfoldable pub longest-turn : ℕ → List ℕ → ℕ
+longest-turn h [] = 0
+longest-turn h (t ∷ row) = max (turn-bytes h t row) (longest-turn h row)

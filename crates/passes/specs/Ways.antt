@@ -5,7 +5,7 @@ use mathlib.Core.Bool.{Bool, false, _&&_, _||_, cond}
 use mathlib.Core.List.{List, [], _∷_}
 use Prim.Native.Nat.{ℕ, suc, _≤_, _<_}
 use lib.Dec.{eqb, ltb}
-use lib.ListN.{length, drop}
+use lib.ListN.{length, drop, replicate}
 use Rattle.bits.specs.Tally.{any}
 use Rattle.sets.specs.declared.set.Set.{Set}
 use Rattle.sets.specs.Members.{has, limit, row, rows}
@@ -50,6 +50,10 @@ pub record Listed (s : Set) (k : ℕ) (l m : List ℕ) : Type 0 where
 pub record Reversed (follow : List ℕ) (n : ℕ) (l m : List ℕ) : Type 0 where
   pub same-rows : rows m ≡ rows l
   pub joins : (p q : ℕ) → has (row m p) q ≡ (has (row l p) q || (ltb q n && has (row follow q) p))
+
+-- row q of `pre` has those that may come before q, by `follow`
+abbrev pub Preceding : List ℕ → List ℕ → Type 0
+Preceding follow pre = Reversed follow limit (replicate limit 0) pre
 
 -- the positions that read byte b and may come before a position of s
 abbrev pub leading : List ℕ → List ℕ → ℕ → (ℕ → Bool) → ℕ → Bool

@@ -6,8 +6,12 @@ pub mod Complete
 pub mod Sound
 pub mod Walks
 pub mod Erased
+pub mod ByteTokens
+pub mod InFront
 pub mod Paired
+pub mod Figures
 pub mod Turns
+pub mod TurnBytes
 pub mod Order
 pub mod Row
 pub mod Tests

@@ -1,30 +1,18 @@
--- Rows in which the openings and closings of a mark pair off: what its turns read, and what the turn count of such a row is.
+-- Rows in which the openings and closings of a mark pair off, and what its turns read.
 use mathlib.Core.Path.{_≡_, refl, sym, _∙_, ap}
-use mathlib.Core.Bool.{Bool, true, false, _||_, cond}
+use mathlib.Core.Bool.{Bool, true, false}
 use mathlib.Core.List.{List, [], _∷_, _++_, append-assoc, cons≢nil, nil≢cons, head-eq-of-cons-eq, tail-eq-of-cons-eq}
-use Prim.Native.Nat.{ℕ, suc, _+_, _-_, _≤_, _<_}
+use Prim.Native.Nat.{ℕ, suc, _+_, _≤_}
 use native.Mathlib.Omega.{arith}
 use native.Mathlib.Nat.{zero-add}
-use lib.Dec.{eqb, ltb}
+use lib.Dec.{eqb}
 use lib.ListN.{length}
-use borrow.Author.Tests.{eq-eqb, ne-eqb, le-leb, lt-leb, ltb-true, ltb-false}
-use Rattle.meaning.specs.Grammar.{Bytes, byte}
+use borrow.Author.Tests.{eq-eqb, ne-eqb}
 use Rattle.meaning.specs.Tree.{erase}
-use Rattle.meaning.specs.Turns.{closes, is-byte, some-token, up-to-closing, turn-count}
-use Rattle.grammar.specs.ByteRow.{bytes-left, bytes-right}
+use Rattle.meaning.specs.Turns.{closes, some-token, up-to-closing}
 use Rattle.bits.specs.Tally.{one}
 use Rattle.bits.specs.Truth.{or-right}
 use Rattle.positions.specs.Erased.{erase-mark, erase-append}
-
--- which tokens are byte tokens
-pub below-bytes : (t : ℕ) → t < 256 → is-byte t ≡ false
-below-bytes t l = rw (lt-leb 256 t l)
-
-pub above-bytes : (t : ℕ) → 511 < t → is-byte t ≡ false
-above-bytes t l = rw (le-leb 256 t (omega arith), lt-leb t 511 l)
-
-pub a-byte : (t : ℕ) → 256 ≤ t → t ≤ 511 → is-byte t ≡ true
-a-byte t l l′ = rw (le-leb 256 t l, le-leb t 511 l′)
 
 -- no token of the row opens or closes h
 pub data Clear (h : ℕ) : List ℕ → Type 0 where
@@ -131,37 +119,16 @@ paired-openings p = paired-marks the-opening p
 pub paired-closings : {h : ℕ} {row : List ℕ} {texts : List (List ℕ)} → Paired h row texts → count (128 + h) row ≡ length texts
 paired-closings p = paired-marks the-closing p
 
--- a token that does not open h adds nothing to its turn count, a turn adds 1 if a byte token stands in it
-pub turn-count-other : (h t : ℕ) (row : List ℕ) → (t ≡ h → ⊥) → turn-count h (t ∷ row) ≡ turn-count h row
-unfolding turn-count
-turn-count-other h t row n = rw (ne-eqb t h n) (zero-add (turn-count h row))
-
-turn-count-past : {h : ℕ} {inner : List ℕ} → Clear h inner → (row : List ℕ) → turn-count h (inner ++ row) ≡ turn-count h row
-turn-count-past clear-end row = refl
-turn-count-past {h} (clear-more {t = t} {row = inner} n n′ c) row = turn-count-other h t (inner ++ row) n ∙ turn-count-past c row
-
-is-closed : (h : ℕ) (inner row : List ℕ) → some-token (closes h) (inner ++ ((128 + h) ∷ row)) ≡ true
+-- the closing that ends a turn is the next one
+pub is-closed : (h : ℕ) (inner row : List ℕ) → some-token (closes h) (inner ++ ((128 + h) ∷ row)) ≡ true
 unfolding some-token
 is-closed h [] row = rw (eq-eqb (128 + h) (128 + h) refl)
 is-closed h (t ∷ inner) row = or-right (closes h t) (is-closed h inner row)
 
-up-to-its-closing : {h : ℕ} {inner : List ℕ} → Clear h inner → (row : List ℕ) → up-to-closing h (inner ++ ((128 + h) ∷ row)) ≡ inner
+pub up-to-its-closing : {h : ℕ} {inner : List ℕ} → Clear h inner → (row : List ℕ) → up-to-closing h (inner ++ ((128 + h) ∷ row)) ≡ inner
 unfolding up-to-closing
 up-to-its-closing {h} clear-end row = rw (eq-eqb (128 + h) (128 + h) refl)
 up-to-its-closing {h} (clear-more {t = t} n n′ c) row = rw (ne-eqb t (128 + h) n′) (ap (λ (l : List ℕ). t ∷ l) (up-to-its-closing c row))
-
-pub turn-adds : {h : ℕ} {inner : List ℕ} → Clear h inner → (row : List ℕ) → turn-count h (turn-before h inner row) ≡ one (some-token is-byte inner) + turn-count h row
-unfolding turn-count
-turn-adds {h} {inner} c row =
-    let past = turn-count-past c ((128 + h) ∷ row) ∙ turn-count-other h (128 + h) row (λ e. omega arith) in
-    rw (eq-eqb h h refl, is-closed h inner row, up-to-its-closing c row) (ap (λ (n : ℕ). one (some-token is-byte inner) + n) past)
-
-pub turn-count-append : {h : ℕ} {a : List ℕ} {texts : List (List ℕ)} → Paired h a texts → (b : List ℕ) → turn-count h (a ++ b) ≡ turn-count h a + turn-count h b
-turn-count-append {h} p-end b = unfold turn-count in sym (zero-add (turn-count h b))
-turn-count-append {h} (p-other {t = t} {row = a} n n′ p) b =
-    rw (turn-count-other h t (a ++ b) n, turn-count-other h t a n) (turn-count-append p b)
-turn-count-append {h} (p-turn {inner = inner} {row = a} c p) b =
-    rw (append-assoc inner ((128 + h) ∷ a) b, turn-adds c (a ++ b), turn-adds c a, turn-count-append p b) (omega arith)
 
 -- a text of at least one byte, as a test; how many texts are such
 abbrev pub has-text : List ℕ → Bool
@@ -172,29 +139,7 @@ unfoldable pub with-text : List (List ℕ) → ℕ
 with-text [] = 0
 with-text (s ∷ texts) = one (has-text s) + with-text texts
 
--- where its text is of bytes, a row has a byte token exactly if that text is not empty
-reads-text : (row : List ℕ) → Bytes (erase row) → some-token is-byte row ≡ has-text (erase row)
-unfolding some-token erase
-reads-text [] b = refl
-reads-text (t ∷ row) b = go (reads-text row) (ltb t 256) refl b
-  where
-    go : (Bytes (erase row) → some-token is-byte row ≡ has-text (erase row)) → (c : Bool) → ltb t 256 ≡ c → Bytes (cond c (erase row) ((t - 256) ∷ erase row))
-        → (is-byte t || some-token is-byte row) ≡ has-text (cond c (erase row) ((t - 256) ∷ erase row))
-    go f true e b = rw (below-bytes t (ltb-true t 256 e)) (f b)
-    go f false e (byte l b) =
-        let low = ltb-false t 256 e in
-        rw (a-byte t low (omega arith))
-
-erase-turn-before : (h : ℕ) (inner row : List ℕ) → h ≤ 127 → erase (turn-before h inner row) ≡ erase inner ++ erase row
+-- marks leave no text
+pub erase-turn-before : (h : ℕ) (inner row : List ℕ) → h ≤ 127 → erase (turn-before h inner row) ≡ erase inner ++ erase row
 erase-turn-before h inner row l =
     rw (erase-mark h (inner ++ ((128 + h) ∷ row)) (omega arith), erase-append inner ((128 + h) ∷ row), erase-mark (128 + h) row (omega arith))
-
--- THE TURN COUNT OF A ROW THAT PAIRS OFF: how many turns read text
-pub paired-count : {h : ℕ} {row : List ℕ} {texts : List (List ℕ)} → h ≤ 127 → Paired h row texts → Bytes (erase row) → turn-count h row ≡ with-text texts
-unfolding with-text
-paired-count l p-end b = unfold turn-count in refl
-paired-count {h} l (p-other {t = t} {row = row} n n′ p) b =
-    turn-count-other h t row n ∙ paired-count l p (bytes-right (erase (t ∷ [])) (rw (erase-append (t ∷ []) row) at b))
-paired-count {h} l (p-turn {inner = inner} {row = row} c p) b =
-    let b′ = rw (erase-turn-before h inner row l) at b in
-    rw (turn-adds c row, reads-text inner (bytes-left (erase inner) (erase row) b′), paired-count l p (bytes-right (erase inner) b′))

@@ -14,7 +14,8 @@ use Rattle.meaning.specs.Tree.{closing, letter, turn, Tree, t-eps, t-pos, t-cat
 use Rattle.meaning.specs.Turns.{turn-count}
 use Rattle.positions.specs.Erased.{erases}
 use Rattle.positions.specs.Paired.{Clear, clear-end, clear-more, clear-append, clear-paired, Paired, p-end, p-other, p-turn, paired-append, paired-one}
-use Rattle.positions.specs.Paired.{count, paired-openings, paired-closings, with-text, paired-count}
+use Rattle.positions.specs.Paired.{count, paired-openings, paired-closings, with-text}
+use Rattle.positions.specs.Figures.{paired-count}
 
 -- the text of one turn, if it is a turn of h
 abbrev pub own-text : ℕ → ℕ → List ℕ → List (List ℕ)

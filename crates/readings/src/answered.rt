@@ -22,7 +22,7 @@ pub fn number(n: usize) {
 }
 
 // The first n bytes.
-fn said(out: &[u8], n: usize) {
+pub fn said(out: &[u8], n: usize) {
     if n <= out.len() {
         say(&out[..n]);
     }
@@ -53,15 +53,16 @@ pub fn show(got: Outcome, room: &[u16]) {
     }
 }
 
-fn turns_line(n: usize, count: usize) {
-    say(b"TURNS ");
+// The number of an answer, and its value.
+pub fn pair(label: &[u8], n: usize, v: usize) {
+    say(label);
     number(n);
     say(b" ");
-    number(count);
+    number(v);
     say(b"\n");
 }
 
 // The number 0 and the count, or 10.
 pub fn counted(got: TurnCount) {
-    turns_line(turns_number(got) as usize, count(got));
+    pair(b"TURNS ", turns_number(got) as usize, count(got));
 }

@@ -28,12 +28,12 @@ fn quoted(w: &[u8]) {
     say(b"\"");
 }
 
-fn labelled(label: &[u8], w: &[u8]) {
+pub fn labelled(label: &[u8], w: &[u8]) {
     say(label);
     quoted(w);
 }
 
-fn amount(label: &[u8], n: usize) {
+pub fn amount(label: &[u8], n: usize) {
     say(label);
     number(n);
 }

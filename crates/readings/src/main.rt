@@ -1,6 +1,7 @@
 // The readings of the rules that no theorem states: each is one line below, and prints what is asked and what is answered.
 mod answered;
 mod asked;
+mod nights;
 
 use asked::back;
 use asked::desk;
@@ -10,6 +11,7 @@ use asked::letters;
 use asked::plain;
 use asked::row_turned;
 use asked::turned;
+use nights::night;
 
 // With the length of the longest beginning that begins a pattern.
 fn not_patterns() {
@@ -91,6 +93,23 @@ fn lines_back() {
     back(b"TREE o1 c1 o1 c1 o1 c1 o1 c1 o1 c1 o1 c1 o1 c1 o1 c1 o1 c1\n");
 }
 
+// Nights: one with a report that does not fit, one of no reports, and one under a pattern without marks.
+fn sheets() {
+    night(b"(a|b)*", b"abx", &[2, 0, 1], &[5, 1, 0], 3);
+    night(b"(a|b)*", b"", &[], &[0, 0, 0], 3);
+    night(b"ab", b"abx", &[2, 1], &[], 0);
+}
+
+// Each refusal of a night, the first that applies: lengths, last night's list, its numbers; the pattern comes before all of them.
+fn no_sheets() {
+    night(b"(a|b)*", b"abx", &[2, 2], &[5, 1, 0], 3);
+    night(b"(a|b)*", b"abx", &[2, 1], &[5, 1], 3);
+    night(b"(a|b)*", b"abx", &[2, 1], &[5, 1, 4096001], 3);
+    night(b"(a|b)*", b"abx", &[2, 2], &[5, 4096001], 3);
+    night(b"(a|b)*", b"abx", &[2, 1], &[5, 4096001], 3);
+    night(b"a**", b"abx", &[2, 2], &[5, 4096001], 3);
+}
+
 fn main() {
     not_patterns();
     not_trees();
@@ -102,4 +121,6 @@ fn main() {
     outer_marks();
     desk(b"(a|ab)b?\nab");
     lines_back();
+    sheets();
+    no_sheets();
 }

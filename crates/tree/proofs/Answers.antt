@@ -54,22 +54,35 @@ long (sought g a s) z l = Answered.judged g a (long-sought s z l)
 abbrev tree-told : ℕ → Bool → Bool → Outcome
 tree-told l o short = cond short (outcome.SmallRoom l) (outcome.Tree l o)
 
+-- by what is known of a refusal, of a row that the room holds and of one that it does not
+told-as : (room : ℕ) (S A : ℕ → ℕ → ℕ → Type 0) → ((n v f : ℕ) → S n v f → (n ≡ 0 → ⊥) → A n v f) → ((n v f : ℕ) → S n v f → n ≡ 0 → v ≤ room → A 0 v f)
+    → ((n v f : ℕ) → S n v f → n ≡ 0 → room < v → A 9 v 0)
+    → (r : Outcome) → S (number-of r) (value-of r) (flag-of r) → A (number-of (tell r room)) (value-of (tell r room)) (flag-of (tell r room))
+told-as room S A p q l outcome.LongPattern s = p _ _ _ s (λ z. omega arith)
+told-as room S A p q l outcome.LongText s = p _ _ _ s (λ z. omega arith)
+told-as room S A p q l outcome.FewCells s = p _ _ _ s (λ z. omega arith)
+told-as room S A p q l (outcome.NoPattern place) s = p _ _ _ s (λ z. omega arith)
+told-as room S A p q l outcome.TooDeep s = p _ _ _ s (λ z. omega arith)
+told-as room S A p q l outcome.ManyPositions s = p _ _ _ s (λ z. omega arith)
+told-as room S A p q l outcome.ManyMarks s = p _ _ _ s (λ z. omega arith)
+told-as room S A p q l (outcome.NoTree place) s = p _ _ _ s (λ z. omega arith)
+told-as room S A p q l (outcome.SmallRoom k) s = p _ _ _ s (λ z. omega arith)
+told-as room S A p q l (outcome.Tree k o) s = go (ltb room k) refl
+  where
+    go : (t : Bool) → ltb room k ≡ t → A (number-of (tree-told k o t)) (value-of (tree-told k o t)) (flag-of (tree-told k o t))
+    go true e = l _ _ _ s refl (ltb-true _ _ e)
+    go false e = q _ _ _ s refl (ltb-false _ _ e)
+
 pub told-answered : {pat text cells room cells′ room′ : List ℕ} (r : Outcome) → Searched pat text cells room (number-of r) (value-of r) (flag-of r) cells′ room′
     → Answered pat text cells room (number-of (tell r (length room))) (value-of (tell r (length room))) (flag-of (tell r (length room))) cells′ room′
-told-answered outcome.LongPattern s = plain s (λ z. omega arith)
-told-answered outcome.LongText s = plain s (λ z. omega arith)
-told-answered outcome.FewCells s = plain s (λ z. omega arith)
-told-answered (outcome.NoPattern place) s = plain s (λ z. omega arith)
-told-answered outcome.TooDeep s = plain s (λ z. omega arith)
-told-answered outcome.ManyPositions s = plain s (λ z. omega arith)
-told-answered outcome.ManyMarks s = plain s (λ z. omega arith)
-told-answered (outcome.NoTree place) s = plain s (λ z. omega arith)
-told-answered (outcome.SmallRoom l) s = plain s (λ z. omega arith)
-told-answered {pat} {text} {cells} {room} {cells′} {room′} (outcome.Tree l o) s = go (ltb (length room) l) refl
-  where
-    go : (t : Bool) → ltb (length room) l ≡ t → Answered pat text cells room (number-of (tree-told l o t)) (value-of (tree-told l o t)) (flag-of (tree-told l o t)) cells′ room′
-    go true e = long s refl (ltb-true _ _ e)
-    go false e = fits s refl (ltb-false _ _ e)
+told-answered {pat} {text} {cells} {room} {cells′} {room′} r s =
+    told-as (length room) (λ n v f. Searched pat text cells room n v f cells′ room′) (λ n v f. Answered pat text cells room n v f cells′ room′)
+    (λ n v f. plain) (λ n v f. fits) (λ n v f. long) r s
+
+pub told-judged : {e : Re} {text room room′ : List ℕ} {o : Outcome} (r : Outcome) → o ≡ tell r (length room) → Sought e text room (number-of r) (value-of r) (flag-of r) room′
+    → Judged e text room (number-of o) (value-of o) (flag-of o) room′
+told-judged {e} {text} {room} {room′} r i s =
+    rw i (told-as (length room) (λ n v f. Sought e text room n v f room′) (λ n v f. Judged e text room n v f room′) (λ n v f. plain-sought) (λ n v f. fits-sought) (λ n v f. long-sought) r s)
 
 pub answered-as : {pat text cells room cells′ room′ : List ℕ} {o : Outcome} (r : Outcome) → o ≡ tell r (length room) → Searched pat text cells room (number-of r) (value-of r) (flag-of r) cells′ room′
     → Answered pat text cells room (number-of o) (value-of o) (flag-of o) cells′ room′

@@ -30,7 +30,7 @@ ready h k l = record { short-pattern = h; short-text = k; cells-enough = omega a
 
 module _ {pat : List ℕ} {P : ReadPattern} (bytes : (i : ℕ) → Fits w8 (getD pat i 0)) (H : Held pat P) where
   -- the read pattern holds what the pattern denotes
-  given-of : Given (H .denotes) (P .kind) (P .arg) (P .class) (P .nodes - 1) (P .positions) (P .marks)
+  pub given-of : Given (H .denotes) (P .kind) (P .arg) (P .class) (P .nodes - 1) (P .positions) (P .marks)
   given-of =
       let h = H .holding in
       let some = nodes-some (H .denotes) in
@@ -60,9 +60,11 @@ module _ {pat : List ℕ} {P : ReadPattern} (bytes : (i : ℕ) → Fits w8 (getD
       → Searched pat text cells t (number-of r) (value-of r) (flag-of r) cells′ t′
   searched g f = let x = f (H .denotes) given-of in rw (x .clear) (sought g (H .accepted) (x .sought))
 
--- a refusal
+-- a refusal of the reader
+pub refused-as : {pat kind arg class : List ℕ} {f : Filled} (r : Reading) → read.Fills pat f kind arg class → f .reading ≡ r
+    → (read.number-of r ≡ 0 → ⊥) → (read.number-of r ≡ 1 → ⊥) → Refused pat (read.number-of r) (read.value-of r)
+refused-as r h e x y = rw e at (refusal h (λ n. x (sym (ap read.number-of e) ∙ n)) (λ n. y (sym (ap read.number-of e) ∙ n)))
+
 pub refuses : {pat text cells t kind arg class : List ℕ} {f : Filled} (r : Reading) → read.Fills pat f kind arg class → Ready pat text cells → f .reading ≡ r
     → (read.number-of r ≡ 0 → ⊥) → (read.number-of r ≡ 1 → ⊥) → Searched pat text cells t (read.number-of r) (read.value-of r) 0 cells t
-refuses {pat} r h g e x y =
-    let z : Refused pat (read.number-of r) (read.value-of r) = rw e at (refusal h (λ n. x (sym (ap read.number-of e) ∙ n)) (λ n. y (sym (ap read.number-of e) ∙ n))) in
-    refused g z
+refuses r h g e x y = refused g (refused-as r h e x y)

@@ -9,7 +9,7 @@ use crate::outcome::value;
 use crate::search::search;
 
 // What the search found, told of a room of so many tokens.
-fn told(found: Outcome, room: usize) -> Outcome
+pub fn told(found: Outcome, room: usize) -> Outcome
     ensures { λ r. ⌜ r ≡ tell found room ⌝ }
 {
     if number(found) == 0 {

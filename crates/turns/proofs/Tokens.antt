@@ -6,8 +6,9 @@ use mathlib.Core.List.{List, [], _∷_}
 use Prim.Native.Nat.{ℕ, _+_, _≤_, _<_}
 use native.Mathlib.Omega.{arith}
 use borrow.Author.Tests.{eq-eqb, ne-eqb}
-use Rattle.meaning.specs.Turns.{opens, closes, is-byte, some-token, up-to-closing, is-counted, turn-count}
-use Rattle.positions.specs.Paired.{below-bytes, above-bytes, a-byte, turn-count-other}
+use Rattle.meaning.specs.Turns.{closes, is-byte, some-token, is-counted, turn-count}
+use Rattle.positions.specs.ByteTokens.{below-bytes, above-bytes, a-byte}
+use Rattle.positions.specs.InFront.{closed-past, closed-here, up-to-past, up-to-here, turn-count-other}
 use Rattle.turns.specs.declared.Behind.{Behind}
 use Rattle.turns.specs.Behind.{Stands}
 
@@ -15,21 +16,14 @@ turns-opened : (h t : ℕ) (row : List ℕ) → t ≡ h → {c : Bool} → c ≡
 turns-opened h t row e k = unfold turn-count in rw (eq-eqb t h e, k)
 
 module _ (h t : ℕ) (row : List ℕ) (n : closes h t ≡ false) where
-  closed-past : some-token (closes h) (t ∷ row) ≡ some-token (closes h) row
-  closed-past = unfold some-token in rw n
-
   counted-past : is-byte t ≡ false → is-counted h (t ∷ row) ≡ is-counted h row
-  counted-past e = unfold some-token up-to-closing in rw (n, e)
+  counted-past e = rw (closed-past h t row n, up-to-past h t row n) (unfold some-token in rw e)
 
   counted-byte : is-byte t ≡ true → is-counted h (t ∷ row) ≡ some-token (closes h) row
-  counted-byte e = unfold some-token up-to-closing in rw (n, e) (and-true _)
+  counted-byte e = rw (closed-past h t row n, up-to-past h t row n) (unfold some-token in rw e (and-true _))
 
-module _ (h t : ℕ) (row : List ℕ) (y : closes h t ≡ true) where
-  closed-here : some-token (closes h) (t ∷ row) ≡ true
-  closed-here = unfold some-token in rw y
-
-  counted-here : is-counted h (t ∷ row) ≡ false
-  counted-here = unfold some-token up-to-closing in rw y
+counted-here : (h t : ℕ) (row : List ℕ) → closes h t ≡ true → is-counted h (t ∷ row) ≡ false
+counted-here h t row y = rw (closed-here h t row y, up-to-here h t row y) (unfold some-token in refl)
 
 -- what stands behind the place before, by what the token there is
 module _ {h t : ℕ} {row : List ℕ} {b : Behind} (s : Stands h row b) where

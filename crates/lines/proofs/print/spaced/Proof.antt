@@ -2,7 +2,7 @@
 use native.Mathlib.Omega.{arith}
 use borrow.Author.Needs.{needs}
 use Rattle.lines.proofs.WroteLaws.{wrote-then}
-use Rattle.lines.proofs.DeskLaws.{digits-length}
+use Rattle.laws.specs.Digits.{digits-length}
 use Rattle.lines.proofs.print.spaced.Statement.{statement}
 use Rattle.lines.proofs.print.spaced.Tie as tie
 

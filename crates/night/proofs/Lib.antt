@@ -1,0 +1,3 @@
+-- Laws of the reports of a night.
+pub mod Going
+pub mod Reporting
