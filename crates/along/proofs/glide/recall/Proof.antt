@@ -3,7 +3,6 @@ use mathlib.Core.Path.{_≡_, refl, _∙_}
 use mathlib.Core.Bool.{_||_}
 use mathlib.Core.Logic.{⊎-elim}
 use Prim.Native.Nat.{_+_, _*_}
-use native.Mathlib.Omega.{arith}
 use lib.Dec.{eqb}
 use lib.ListN.{getD}
 use Rattle.walks.proofs.Written.{or-yes, or-no}
@@ -54,11 +53,11 @@ letter-requires c κs = search needs
 lay-requires : tie.Need-lay-requires
 lay-requires c κs = search needs
 
-add-t14 : tie.Need-add-t14
-add-t14 c = search needs
+add-t13 : tie.Need-add-t13
+add-t13 c = search needs
 
-add-t20 : tie.Need-add-t20
-add-t20 c = search needs
+add-t19 : tie.Need-add-t19
+add-t19 c = search needs
 
 same-length : tie.Need-same-length
 same-length c = search needs
@@ -74,8 +73,8 @@ returns c =
     let letter = lettered .letter .ensures in
     let told = lettered .before .before in
     let asked = told .before .before .before .before .before .args in
-    let given = told .before .before .before .before .before .pre in
-    recalled (asked .links .now) (asked .pool .now) (asked .tree .now) (asked .p) (asked .b) (asked .s) (letter .1) (letter .0) (laid .lay .ensures) (omega (arith, given .past, given .all-tokens)) refl refl refl (other told)
+    let past = told .before .before .before .before .before .pre .past in
+    recalled (asked .links .now) (asked .tree .now) (asked .p) (asked .b) (asked .s) (letter .1) (letter .0) (laid .lay .ensures) past refl refl refl (other told)
 
 pub recall-spec : {M : Type 1} → statement M
 recall-spec =
@@ -95,7 +94,7 @@ recall-spec =
     element-copy-out-other
     letter-requires
     lay-requires
-    add-t14
-    add-t20
+    add-t13
+    add-t19
     same-length
     returns)
