@@ -9,6 +9,7 @@ use lib.Dec.{eqb}
 use lib.ListN.{length, getD, drop}
 use Rattle.meaning.specs.Expression.{Re, marks, size}
 use Rattle.positions.specs.Alive.{alive, alive-at, alive-in, ended-at}
+use Rattle.positions.specs.Places.{In, inside}
 use Rattle.positions.specs.Positions.{Out, at}
 use Rattle.positions.specs.Room.{spare-most}
 use Rattle.positions.specs.Runs.{Run, rowOf, outOf, otherOf, resumeRun}
@@ -24,10 +25,10 @@ use Rattle.along.specs.declared.glide.Stand.{Stand}
 use Rattle.along.specs.Along.{Along, Came}
 use Rattle.along.specs.Glide.{Guided, Recalled, Recalls, stood}
 use Rattle.walks.specs.Tables.{flag}
-use Rattle.along.specs.Links.{LinkAt, PlaceOf, Kept}
+use Rattle.along.specs.Links.{LinkAt, PlaceOf, Kept, pool-limit}
 use Rattle.along.proofs.Along.{along-more, along-few}
 use Rattle.along.proofs.Coming.{along-room}
-use Rattle.along.proofs.Linking.{kept-link, kept-on}
+use Rattle.along.proofs.Linking.{kept-link, resume-within}
 use Rattle.along.proofs.Standing.{beyond-less}
 
 flag-back : (w : Bool) → eqb (flag w) 1 ≡ w
@@ -79,18 +80,22 @@ module _ {e : Re} {txt cells ts : List ℕ} (G : Guided e txt cells ts) {t : Lis
             let l : has goal q ≡ true = goal-living q ∙ ap (λ (m : ℕ). alive e (drop m txt) q) (add-one (s .read)) ∙ k in
             (q, near-follows q ∙ rw (i, l) refl)
 
-    module _ {links : List ℕ} (K : Kept e keys links t (s .at)) where
-      link : LinkAt (way e (s .position) goal) links t (s .at) p
-      link = kept-link (s .position) near goal (G .fair) few near-follows p (member .0) K (T .place) (member .1) (T .same)
+    module _ {links pool : List ℕ} {used : ℕ} (K : Kept e keys links pool used) where
+      link : LinkAt (way e (s .position) goal) links pool used p
+      link = kept-link (s .position) near goal (G .fair) few near-follows p (member .0) K within (T .place) (member .1) (T .same)
 
-      pub glide-recalls : Recalls links p s
-      glide-recalls =
-          let l = resume-run-room 0 0 e (s .position) (has goal) false (omega arith, omega (arith, within)) in
+      pub glide-recalls : used ≤ pool-limit → length pool ≡ 1024 → Recalls links pool p s
+      glide-recalls u n =
+          let here : In 0 e (s .position) = (omega arith, omega (arith, within)) in
+          let l = resume-run-room 0 0 e (s .position) (has goal) false here in
+          let led-to = inside (rw (link .out) at (resume-within 0 0 e (s .position) (has goal) false here)) in
           let m = spare-most (outOf (way e (s .position) goal)) (marks e) in
           let r = along-room (G .fair) (G .few) (G .short) A (omega arith) refl in
           record {
             within = omega (arith, T .place .below, glide-inside);
-            past = link .past;
+            inside = omega (arith, led-to .1, G .few-positions);
+            past = omega (arith, link .past);
+            all-tokens = n;
             room = omega (arith, l, m, link .long-is, r);
             next = omega (arith, G .short);
           }
@@ -103,8 +108,8 @@ module _ {e : Re} {txt cells ts : List ℕ} (G : Guided e txt cells ts) {t : Lis
           rw (x, y, flag-back w, m) refl
 
       -- the byte is read, and its way gone
-      pub glide-came : {t′ : List ℕ} {spare : ℕ} {r : Stand} → Recalled links p (getD txt (s .read) 0) t t′ spare s r → spare ≤ length txt - (s .read + 1)
-          → Came e txt keys links t t′ (stood s) (stood r) (s .read) (r .read)
+      pub glide-came : {t′ : List ℕ} {spare : ℕ} {r : Stand} → Recalled links pool p (getD txt (s .read) 0) t t′ spare s r → spare ≤ length txt - (s .read + 1)
+          → Came e txt t t′ (stood s) (stood r) (s .read) (r .read)
       glide-came {t′} {spare} {r} C l =
           let R = way e (s .position) goal in
           let c : r .at ≡ s .at + 1 + getD links (4 * p + 2) 0 = ap cursor (C .step) in
@@ -113,7 +118,6 @@ module _ {e : Re} {txt cells ts : List ℕ} (G : Guided e txt cells ts) {t : Lis
                 rw (C .read)
                 (along-more e (G .fair) few txt (s .read) (omega arith) t t′ (stood s) (stood r) (has goal) false A refl goal-living (sym (ended-at txt (s .read + 1) h)) (C .below)
                 (C .row (rowOf R) (sym (link .long-is)) (link .row)) (C .step ∙ led (outOf R) (otherOf R) (link .out) (link .bit)));
-            kept = kept-on K (C .below) (omega arith);
             later = omega (arith, C .read);
             beyond = beyond-less _ (C .beyond) (omega (arith, C .read));
           }

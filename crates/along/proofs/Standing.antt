@@ -69,13 +69,19 @@ shows-then t a r s S T i h l = side i (length r) (getD t (a + i) 0 ≡ getD (r +
         let n : a + length r + (i - length r) ≡ a + i = omega arith in
         ap (λ (x : ℕ). getD t x 0) (sym n) ∙ T (i - length r) (omega (arith, length-append r s)) (omega arith) ∙ sym (getD-append-add r s (i - length r) 0) ∙ ap (λ (x : ℕ). getD (r ++ s) x 0) m
 
--- a row that stands in front is written, where what lies behind is as it was
-pub shows-whole : (t₀ t r : List ℕ) → Shows t 0 r → Beyond t₀ t (length r) → t ≡ sets t₀ 0 r
-shows-whole t₀ t r S B = ext-getD 0 t (sets t₀ 0 r) (B .same-length ∙ sym (length-sets t₀ 0 r)) (λ i h. side i (length r) (getD t i 0 ≡ getD (sets t₀ 0 r) i 0) (first i h) (second i))
+-- a row that stands at a is written, where what lies before and behind is as it was
+pub shows-wrote : (t₀ t r : List ℕ) (a : ℕ) → Below t₀ t a → Shows t a r → Beyond t₀ t (a + length r) → t ≡ sets t₀ a r
+shows-wrote t₀ t r a A S B = ext-getD 0 t (sets t₀ a r) (B .same-length ∙ sym (length-sets t₀ a r)) at
   where
-    first : (i : ℕ) → i < length t → i < length r → getD t i 0 ≡ getD (sets t₀ 0 r) i 0
-    first i h k =
-        ap (λ (x : ℕ). getD t x 0) (sym (zero-add i)) ∙ S i k (omega arith) ∙ sym (sets-inside t₀ 0 r i k (omega (arith, B .same-length))) ∙ ap (λ (x : ℕ). getD (sets t₀ 0 r) x 0) (zero-add i)
+    inside : (i : ℕ) → i < length t → a ≤ i → i < a + length r → getD t i 0 ≡ getD (sets t₀ a r) i 0
+    inside i h k l =
+        let n : a + (i - a) ≡ i = omega arith in
+        ap (λ (x : ℕ). getD t x 0) (sym n) ∙ S (i - a) (omega arith) (omega arith) ∙ sym (sets-inside t₀ a r (i - a) (omega arith) (omega (arith, B .same-length))) ∙ ap (λ (x : ℕ). getD (sets t₀ a r) x 0) n
 
-    second : (i : ℕ) → length r ≤ i → getD t i 0 ≡ getD (sets t₀ 0 r) i 0
-    second i k = B .same i k ∙ sym (sets-behind t₀ 0 r i (omega arith))
+    at : (i : ℕ) → i < length t → getD t i 0 ≡ getD (sets t₀ a r) i 0
+    at i h =
+        side i a (getD t i 0 ≡ getD (sets t₀ a r) i 0) (λ k. A .same i k ∙ sym (sets-before t₀ a r i k))
+        (λ k. side i (a + length r) (getD t i 0 ≡ getD (sets t₀ a r) i 0) (inside i h k) (λ l. B .same i l ∙ sym (sets-behind t₀ a r i l)))
+
+pub shows-whole : (t₀ t r : List ℕ) → Shows t 0 r → Beyond t₀ t (length r) → t ≡ sets t₀ 0 r
+shows-whole t₀ t r S B = shows-wrote t₀ t r 0 (record { same-length = B .same-length; same = λ i h. absurd (omega arith) }) S (rw (zero-add (length r)) B)

@@ -12,7 +12,6 @@ use Rattle.positions.specs.Tests.{Ok}
 use Rattle.positions.specs.Texts.{chain, restRun, textRun}
 use Rattle.walks.specs.declared.step.Step.{Step}
 use Rattle.walks.specs.Steps.{cursor, stepOf}
-use Rattle.along.specs.Links.{Kept}
 use Rattle.along.specs.Rows.{Shows, Beyond}
 
 -- after i bytes: the tokens so far, which stand in t, where they lead, and the rest of the chain of runs
@@ -30,13 +29,12 @@ pub record Along (e : Re) (text t : List ℕ) (s : Step) (i : ℕ) : Type 0 wher
 abbrev pub soonest : List ℕ → Step → ℕ → ℕ
 soonest text s i = cursor s + (length text - i)
 
--- a walk has come from s, after i bytes, to s′, after i′: what is kept stays right, and from where the row ends at the soonest t is as it was
-pub record Came (e : Re) (text keys links t t′ : List ℕ) (s s′ : Step) (i i′ : ℕ) : Type 0 where
+-- a walk has come from s, after i bytes, to s′, after i′: from where the row ends at the soonest t is as it was
+pub record Came (e : Re) (text t t′ : List ℕ) (s s′ : Step) (i i′ : ℕ) : Type 0 where
   pub along : Along e text t′ s′ i′
-  pub kept : Kept e keys links t′ (cursor s′)
   pub later : soonest text s i ≤ soonest text s′ i′
   pub beyond : Beyond t t′ (soonest text s′ i′)
 
 -- a walk of e that has come to s comes to s′
-abbrev pub Goes : Re → List ℕ → List ℕ → List ℕ → List ℕ → List ℕ → List ℕ → List ℕ → Step → Step → ℕ → ℕ → Type 0
-Goes e text keys keys′ links links′ t t′ s s′ i i′ = Along e text t s i → Kept e keys links t (cursor s) → Came e text keys′ links′ t t′ s s′ i i′
+abbrev pub Goes : Re → List ℕ → List ℕ → List ℕ → Step → Step → ℕ → ℕ → Type 0
+Goes e text t t′ s s′ i i′ = Along e text t s i → Came e text t t′ s s′ i i′

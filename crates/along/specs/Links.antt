@@ -1,9 +1,9 @@
--- Links: of the rows of marks between two letters, those that a walk has written once are copied when it comes by again. For each position
--- there are four places to keep one. Assumes nothing: these are definitions.
+-- Links: of the rows of marks between two letters, those that a walk has written once are kept in a pool, and copied when it, or the walk along
+-- another text, comes by again. For each position there are four places to keep one. Assumes nothing: these are definitions.
 use mathlib.Core.Path.{_≡_}
-use mathlib.Core.Bool.{Bool, true, false, _&&_}
+use mathlib.Core.Bool.{Bool, true, false}
 use mathlib.Core.List.{List}
-use Prim.Native.Nat.{ℕ, _+_, _*_, _-_, _%_, _≤_, _<_}
+use Prim.Native.Nat.{ℕ, _+_, _*_, _-_, _%_, _≤_, _<_, _^_}
 use lib.ListN.{length, getD, set}
 use Rattle.meaning.specs.Expression.{Re, marks, size}
 use Rattle.grammar.specs.Fair.{Fair}
@@ -16,8 +16,12 @@ use Rattle.walks.specs.declared.step.Step.{Step}
 use Rattle.walks.specs.declared.step.Step.the-variants.{Passed, Stopped}
 use Rattle.walks.specs.Resume.{Placed}
 use Rattle.walks.specs.Tables.{flag}
-use Rattle.walks.specs.Steps.{cursor, Wrote}
+use Rattle.walks.specs.Steps.{Wrote}
 use Rattle.along.specs.Rows.{Shows}
+
+-- how many tokens of the pool may be used
+abbrev pub pool-limit : ℕ
+pool-limit = 1016
 
 -- the run R ends before position `to`; its `long` tokens stand in t from `from` on, before c; `other` tells its other way
 pub record Link (R : Run) (t : List ℕ) (c to from long other : ℕ) : Type 0 where
@@ -45,41 +49,42 @@ pub record PlaceFor (j : ℕ) (goal : Set) (s : ℕ) : Type 0 where
   pub least : Least goal member
   pub place : s ≡ 4 * j + member % 4
 
--- each place of position j whose goal has a member keeps the run from j to that goal
+-- each place of a position j of e whose goal has a member keeps the run from j to that goal; the rows stand in the first c tokens of t
 pub record Kept (e : Re) (keys links t : List ℕ) (c : ℕ) : Type 0 where
-  pub link : (j s p : ℕ) → PlaceOf j s → has (row keys s) p ≡ true → LinkAt (resumeRun 0 0 e j (has (row keys s)) false) links t c s
+  pub link : (j s p : ℕ) → j < size e → PlaceOf j s → has (row keys s) p ≡ true → LinkAt (resumeRun 0 0 e j (has (row keys s)) false) links t c s
 
--- the root holds an expression with the position j; there is room to count what is written from `from` on, and to keep it
-pub record Linked (ks gs : List ℕ) (root j : ℕ) (keys links : List ℕ) (from : ℕ) : Type 0 where
-  pub placed : Placed ks gs root j from
-  pub inside : j < limit
+-- what is kept is right, whatever the root holds, and stands in the first `used` tokens of the pool
+pub record Stock (ks gs : List ℕ) (root : ℕ) (keys links pool : List ℕ) (used : ℕ) : Type 0 where
   pub all-keys : rows keys ≡ 256
   pub all-links : length links ≡ 1024
+  pub all-tokens : length pool ≡ 1024
+  pub few : used ≤ pool-limit
+  pub kept : (e : Re) → Fair e → marks e ≤ 127 → Holds ks gs 0 0 root e → Kept e keys links pool used
 
--- where the step came to from `new` on is kept at place s, if it stopped
-pub record Keeps (s : ℕ) (goal : Set) (new : ℕ) (u r : Step) (keys keys′ links links′ : List ℕ) : Type 0 where
-  pub same-step : r ≡ u
+-- the root holds an expression of few positions, j among them, and there is room to count what is written from `from` on
+pub record Linked (ks gs : List ℕ) (root j from : ℕ) : Type 0 where
+  pub placed : Placed ks gs root j from
+  pub few-positions : placed .p + size (placed .e) ≤ limit
+  pub room : from + pool-limit < 2 ^ 64
+
+-- the position before which a step stopped, or 0
+abbrev pub position-of : Step → ℕ
+position-of (Passed c w) = 0
+position-of (Stopped q c w) = q
+
+-- the step u, whose row stands from `from` on, as one whose row stands from `new` on
+abbrev pub moved : ℕ → ℕ → Step → Step
+moved from new (Passed c w) = Passed (new + (c - from)) w
+moved from new (Stopped q c w) = Stopped q (new + (c - from)) w
+
+-- where the step came to from `from` on is kept at place s, if it stopped; it is moved to `new`
+pub record Keeps (s : ℕ) (goal : Set) (from new : ℕ) (u r : Step) (keys keys′ links links′ : List ℕ) : Type 0 where
+  pub step : r ≡ moved from new u
   pub same-keys : rows keys′ ≡ rows keys
   pub same-links : length links′ ≡ length links
   pub passed : (c : ℕ) (w : Bool) → u ≡ Passed c w → (keys′ ≡ keys) × (links′ ≡ links)
-  pub stopped : (q c : ℕ) (w : Bool) → u ≡ Stopped q c w → Stored goal s keys keys′ × (links′ ≡ four links s q new (c - new) (flag w))
+  pub stopped : (q c : ℕ) (w : Bool) → u ≡ Stopped q c w → Stored goal s keys keys′ × (links′ ≡ four links s q from (c - from) (flag w))
 
--- the step r from position j to the goal is kept, for the positions `near` of the goal that may follow j
-pub record Files (ts : List ℕ) (j : ℕ) (goal : Set) (keys keys′ links links′ : List ℕ) (from : ℕ) (r : Step) : Type 0 where
-  pub s : ℕ
-  pub near : Set
-  pub place : PlaceFor j goal s
-  pub near-is : (q : ℕ) → has near q ≡ (has (row ts j) q && has goal q)
-  pub keeps : Keeps s near from r r keys keys′ links links′
-
--- unless it is the last
-pub record Filed (ts : List ℕ) (j : ℕ) (goal : Set) (last : Bool) (keys keys′ links links′ : List ℕ) (from : ℕ) (r : Step) : Type 0 where
-  pub at-last : last ≡ true → (keys′ ≡ keys) × (links′ ≡ links)
-  pub before : last ≡ false → Files ts j goal keys keys′ links links′ from r
-
--- the way on from position j to the goal or, if `last`, to the end is gone, and what is kept stays right
-pub record Went (ks gs : List ℕ) (root j : ℕ) (goal : Set) (last : Bool) (keys keys′ links links′ t t′ : List ℕ) (from : ℕ) (r : Step) : Type 0 where
-  pub same-keys : rows keys′ ≡ rows keys
-  pub same-links : length links′ ≡ length links
-  pub wrote : (e : Re) → Fair e → marks e ≤ 127 → Holds ks gs 0 0 root e → j < size e → Wrote t t′ from r (resumeRun 0 0 e j (has goal) last)
-  pub kept : (e : Re) → Fair e → marks e ≤ 127 → Holds ks gs 0 0 root e → j < size e → Kept e keys links t from → Kept e keys′ links′ t′ (cursor r)
+-- the way on from position j to the goal or, if `last`, to the end is gone, whatever the root holds
+pub record Went (ks gs : List ℕ) (root j : ℕ) (goal : Set) (last : Bool) (t t′ : List ℕ) (from : ℕ) (r : Step) : Type 0 where
+  pub wrote : (e : Re) → Holds ks gs 0 0 root e → j < size e → Wrote t t′ from r (resumeRun 0 0 e j (has goal) last)

@@ -1,4 +1,4 @@
--- Rows in the room for a tree: what stands there, what is copied, what is left as it was. Assumes nothing: these are definitions.
+-- Rows in the room for a tree and in the pool: what stands there, what is copied, what is left as it was. Assumes nothing: these are definitions.
 use mathlib.Core.Path.{_≡_}
 use mathlib.Core.List.{List}
 use Prim.Native.Nat.{ℕ, _+_, _≤_, _<_}
@@ -18,8 +18,8 @@ pub record Beyond (t t′ : List ℕ) (c : ℕ) : Type 0 where
   pub same-length : length t′ ≡ length t
   pub same : (i : ℕ) → c ≤ i → getD t′ i 0 ≡ getD t i 0
 
--- the `long` tokens that stand from `from` on are copied to `new`, as far as they fit, and the next `spare` tokens may be spoilt
-pub record Laid (t t′ : List ℕ) (from long new spare : ℕ) : Type 0 where
+-- the `long` tokens that stand in the pool from `from` on are copied to `new`, as far as they fit, and the next `spare` tokens may be spoilt
+pub record Laid (pool t t′ : List ℕ) (from long new spare : ℕ) : Type 0 where
   pub below : Below t t′ new
-  pub copied : (i : ℕ) → i < long → new + i < length t → getD t′ (new + i) 0 ≡ getD t (from + i) 0
+  pub copied : (i : ℕ) → i < long → new + i < length t → getD t′ (new + i) 0 ≡ getD pool (from + i) 0
   pub beyond : Beyond t t′ (new + long + spare)

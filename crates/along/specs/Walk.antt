@@ -43,16 +43,14 @@ pub record Stands (s : Step) (i : ℕ) (r : Stand) : Type 0 where
   pub step : (q c : ℕ) (w : Bool) → s ≡ Stopped q c w → stood r ≡ s
 
 -- a byte is left, and there is room to go on
-pub record Advances (ks gs : List ℕ) (root : ℕ) (text cells keys links : List ℕ) (s : Stand) : Type 0 where
-  pub linked : Linked ks gs root (s .position) keys links (s .at + 1)
+pub record Advances (ks gs : List ℕ) (root : ℕ) (text cells : List ℕ) (s : Stand) : Type 0 where
+  pub linked : Linked ks gs root (s .position) (s .at + 1)
   pub left : s .read < length text
   pub enough : length text < rows cells
 
 -- one byte more from where s stands
-pub record Advanced (ks gs : List ℕ) (root : ℕ) (text cells keys keys′ links links′ t t′ : List ℕ) (s : Stand) (r : Step) : Type 0 where
-  pub same-keys : rows keys′ ≡ rows keys
-  pub same-links : length links′ ≡ length links
-  pub goes : (e : Re) → Walkable e ks gs root text cells → Goes e text keys keys′ links links′ t t′ (stood s) r (s .read) (s .read + 1)
+pub record Advanced (ks gs : List ℕ) (root : ℕ) (text cells t t′ : List ℕ) (s : Stand) (r : Step) : Type 0 where
+  pub goes : (e : Re) → Walkable e ks gs root text cells → Goes e text t t′ (stood s) r (s .read) (s .read + 1)
 
 -- the length of the first tree's row, and whether there is another tree
 pub record Measures (e : Re) (text : List ℕ) (r : Walked) : Type 0 where

@@ -5,6 +5,8 @@ ghost use lib.ListN.{length};
 ghost use Rattle.meaning.specs.Expression.{Re};
 ghost use Rattle.meaning.specs.Limits.{night-cells};
 ghost use Rattle.meaning.specs.Sheet.{LengthsRight};
+ghost use Rattle.passes.specs.Ways.{Memo};
+ghost use Rattle.along.specs.Links.{Stock};
 ghost use Rattle.tree.specs.Judge.{Given, Gives, Prepared, Prepares};
 ghost use Rattle.night.specs.Reports.{Spacious, Zero, Reported, Passed, Nightly};
 use passes::cells::clear;
@@ -17,7 +19,13 @@ use tree::outcome::value;
 use tree::prepare::prepare;
 use tree::search::TEXT_LIMIT;
 
-// Judges a report, and counts its row where it has one in the room. Hands back its number.
+// The number of a report, and how many tokens of the pool are used after it.
+pub struct Entry {
+    pub number: u8,
+    pub used: usize,
+}
+
+// Judges a report, and counts its row where it has one in the room.
 fn report<'a>(
     kind: &'a [u8; 1024],
     arg: &'a [u16; 1024],
@@ -30,21 +38,31 @@ fn report<'a>(
     follow: &[u64; 64],
     pre: &[u64; 64],
     last: Set,
+    nexts: &mut [u64; 256],
+    befores: &mut [u64; 256],
+    keys: &mut [u64; 256],
+    links: &mut [u16; 1024],
+    pool: &mut [u16; 1024],
+    used: usize,
     text: &[u8],
     cells: &mut [u64],
     tree: &mut [u16],
     turns: &mut [u64; 64],
     bytes: &mut [u64; 64],
     longest: &mut [u64; 64],
-) -> u8
+) -> Entry
     requires { ⌜ Prepares (now kind) (now arg) (now null) (now first) (now upto) (now mask) (now follow) (now pre) root marks last ⌝ }
     requires { ⌜ night-cells ≤ length (now cells) ⌝ ∗ ⌜ Spacious (now turns) (now bytes) ⌝ }
+    requires { ⌜ Memo (now mask) (now pre) (now nexts) (now befores) ⌝ }
+    requires { ⌜ Stock (now kind) (now arg) root (now keys) (now links) (now pool) used ⌝ }
     ensures { λ r. ⌜ ((e : Re) → Prepared e (now (kind .entry)) (now (arg .entry)) (now (null .entry)) (now (first .entry)) (now (upto .entry)) (now (mask .entry)) (now (follow .entry)) (now (pre .entry)) root marks last
         → Reported e (now (text .entry)) (now (cells .entry)) (now (cells .exit)) (now (tree .entry)) (now (tree .exit))
-        (now (turns .entry)) (now (turns .exit)) (now (bytes .entry)) (now (bytes .exit)) (now (longest .entry)) (now (longest .exit)) r) ⌝ }
+        (now (turns .entry)) (now (turns .exit)) (now (bytes .entry)) (now (bytes .exit)) (now (longest .entry)) (now (longest .exit)) (r .number)) ⌝ }
+    ensures { λ _. ⌜ Memo (now (mask .entry)) (now (pre .entry)) (now (nexts .exit)) (now (befores .exit)) ⌝ }
+    ensures { λ r. ⌜ Stock (now (kind .entry)) (now (arg .entry)) root (now (keys .exit)) (now (links .exit)) (now (pool .exit)) (r .used) ⌝ }
 {
     if TEXT_LIMIT < text.len() {
-        return 2;
+        return Entry { number: 2, used };
     }
     let room = tree.len();
     let found = seek(
@@ -59,20 +77,31 @@ fn report<'a>(
         follow,
         pre,
         last,
+        nexts,
+        befores,
+        keys,
+        links,
+        pool,
+        used,
         text,
         cells,
         tree,
     );
-    let answer = told(found, room);
+    let outcome = found.outcome;
+    let used = found.used;
+    let answer = told(outcome, room);
     let n = number(answer);
     if n != 0 {
-        return n as u8;
+        return Entry {
+            number: n as u8,
+            used,
+        };
     }
     tally(&tree[..value(answer)], turns, bytes, longest);
-    0
+    Entry { number: 0, used }
 }
 
-// All of them: the number of each goes to its place.
+// All of them: the number of each goes to its place. What one report keeps, of sets and of ways on, serves for the next.
 fn pass<'a>(
     kind: &'a [u8; 1024],
     arg: &'a [u16; 1024],
@@ -101,11 +130,17 @@ fn pass<'a>(
         → Passed e (now (reports .entry)) (now (lengths .entry)) (now (cells .entry)) (now (cells .exit)) (now (tree .entry)) (now (tree .exit))
         (now (numbers .exit)) (now (turns .exit)) (now (bytes .exit)) (now (longest .exit))) ⌝ }
 {
+    let mut nexts = [0u64; 256];
+    let mut befores = [0u64; 256];
+    let mut keys = [0u64; 256];
+    let mut links = [0u16; 1024];
+    let mut pool = [0u16; 1024];
+    let mut used = 0;
     let mut at = 0;
     let mut i = 0;
     while i < lengths.len() {
         let end = at + lengths[i] as usize;
-        numbers[i] = report(
+        let r = report(
             kind,
             arg,
             null,
@@ -117,6 +152,12 @@ fn pass<'a>(
             follow,
             pre,
             last,
+            &mut nexts,
+            &mut befores,
+            &mut keys,
+            &mut links,
+            &mut pool,
+            used,
             &reports[at..end],
             cells,
             tree,
@@ -124,6 +165,8 @@ fn pass<'a>(
             bytes,
             longest,
         );
+        numbers[i] = r.number;
+        used = r.used;
         at = end;
         i += 1;
     }

@@ -40,25 +40,34 @@ fn recall(
     found
 }
 
-// Cell i becomes the set of those for the text from byte i on; the last cell, after the text, becomes empty.
-pub fn backward(text: &[u8], mask: &[u64], pre: &[u64], ends: Set, cells: &mut [u64])
+// Cell i becomes the set of those for the text from byte i on; the last cell, after the text, becomes empty. What is kept for each byte serves
+// for every text.
+pub fn backward(
+    text: &[u8],
+    mask: &[u64],
+    pre: &[u64],
+    ends: Set,
+    keys: &mut [u64; 256],
+    sets: &mut [u64; 256],
+    cells: &mut [u64],
+)
     requires { ⌜ (256 ≤ rows (now mask)) × (limit ≤ rows (now pre)) × (length (now text) < rows (now cells)) ⌝ }
+    requires { ⌜ Memo (now mask) (now pre) (now keys) (now sets) ⌝ }
     ensures { λ _. ⌜ ((follow : List ℕ) → Preceding follow (now (pre .entry)) → Backed (now (mask .entry)) follow ends (now (text .entry)) (now (cells .entry)) (now (cells .exit))) ⌝ }
+    ensures { λ _. ⌜ Memo (now (mask .entry)) (now (pre .entry)) (now (keys .exit)) (now (sets .exit)) ⌝ }
 {
     let n = text.len();
     Set::empty().store(cells, n);
     if n == 0 {
         return;
     }
-    let mut keys = [0u64; 256];
-    let mut sets = [0u64; 256];
     let mut i = n - 1;
     let reading = Set::load(mask, text[i] as usize);
     let mut next = reading.meet(ends);
     next.store(cells, i);
     while i > 0 {
         i -= 1;
-        next = recall(mask, pre, &mut keys, &mut sets, text[i], next);
+        next = recall(mask, pre, keys, sets, text[i], next);
         next.store(cells, i);
     }
 }

@@ -1,5 +1,5 @@
 -- The place moves towards the front of a row: one law for each way that it goes, and that what is counted there fits. Assumes nothing.
-use mathlib.Core.Path.{_≡_, refl}
+use mathlib.Core.Path.{_≡_}
 use mathlib.Core.Bool.{false}
 use mathlib.Core.Logic.{_⊎_, inl, inr}
 use mathlib.Core.List.{List, _∷_}
@@ -10,8 +10,8 @@ use lib.Seq.{drop-cons}
 use Rattle.meaning.specs.Limits.{mark-limit}
 use Rattle.meaning.specs.Turns.{is-byte}
 use Rattle.positions.specs.ByteTokens.{below-bytes, above-bytes}
-use Rattle.tally.specs.Along.{Counts, if-read, Added, Takes, Opens, Opened, never, Behind, Underway, Moved, Ends, Ran, Closes}
-use Rattle.tally.proofs.Shorts.{ran-one, ran-two, ran-then, ran-short, short-longer}
+use Rattle.tally.specs.Along.{Counts, if-read, Added, Takes, Opens, Opened, never, Behind, Underway, Moved, Short, Ends, Ran, Closes}
+use Rattle.tally.proofs.Shorts.{short-append, short-longer}
 use Rattle.tally.proofs.Closings.{past-other, closed-now, next-is, own-closing, other-closing}
 use Rattle.tally.proofs.Gains.{Gains, gains-none, gains-open, gains-short, added-none, takes}
 use Rattle.tally.proofs.Steps.{behind-byte, behind-other, behind-closing}
@@ -65,43 +65,35 @@ module _ {row : List ℕ} {at seen : ℕ} {closed : List ℕ} {f : Counts} (u : 
             (λ p q o z. past-other (λ (k : getD row (at - 1) 0 ≡ 128 + suc p). o (omega (arith, e))) low z) none (added-none m f));
       }
 
--- over k turns of one byte, of the mark at place m
-module _ {row : List ℕ} {at seen h at′ seen′ : ℕ} {closed : List ℕ} {f : Counts} (u : Underway row at seen closed f) (r : Ran row h at seen at′ seen′) (m k : ℕ) (e : h ≡ suc m)
-    (l : m < mark-limit) (q : seen′ ≡ seen + k) where
-  run-takes : Takes m k k f
-  run-takes = takes at′ l (gains-short l (rw e at (ran-short k q r))) u
-
-  moved-run : {f′ : Counts} (c : ℕ) → seen′ ≡ c + 1 → at′ < at → 0 < k → Added m k k 1 f f′ → Moved row at seen closed f at′ seen′ (set closed m c) f′
-  moved-run c q′ n p a =
-      let short = rw e at (ran-short k q r) in
-      let one : min k 1 ≡ 1 = omega arith in
-      record {
-        nearer = n;
-        on = λ f₀ b. behind-closing b c l (u .wide-closed) (omega (arith, b .few, short-longer short)) (rw q′ (own-closing c (omega arith) p short))
-            (λ p i′ o z. rw q (other-closing (omega arith) (omega arith) (λ (k : suc m ≡ suc p). o (omega arith)) short z)) (rw one at (gains-short l short)) a;
-      }
-
 -- a closing of h, which ends a turn of one byte, or does not
 module _ {row : List ℕ} {at seen h : ℕ} {closed : List ℕ} {f : Counts} (u : Underway row at seen closed f) (z : Closes row at h) where
+  place : h - 1 < mark-limit
+  place = omega (arith, z .from-one, z .up-to-last)
+
   pub moved-plain : Moved row at seen closed f (at - 1) seen (set closed (h - 1) seen) f
-  moved-plain = moved-closing u (z .not-first) (h - 1) (omega (arith, z .from-one, z .up-to-last)) (omega (arith, z .from-one, z .token))
+  moved-plain = moved-closing u (z .not-first) (h - 1) place (omega (arith, z .from-one, z .token))
 
-  module _ (t : Ends row at h) where
-    pub one-takes : Takes (h - 1) 1 1 f
-    one-takes = run-takes u (ran-one t) (h - 1) 1 (omega (arith, z .from-one)) (omega (arith, z .from-one, z .up-to-last)) refl
+  -- with it go all such turns that stand there behind each other
+  module _ {at′ seen′ : ℕ} (t : Ends row at h) (r : Ran row h (at - 3) (seen + 1) at′ seen′) where
+    short : Short (suc (h - 1)) (seen′ - seen) (drop at′ row) (drop at row)
+    short =
+        let l = r .no-less in
+        let e : h ≡ suc (h - 1) = omega (arith, z .from-one) in
+        let e′ : seen′ - (seen + 1) + 1 ≡ seen′ - seen = omega arith in
+        rw e at (rw e′ at (short-append (r .short) (t .short)))
 
-    pub moved-one : {f′ : Counts} → Added (h - 1) 1 1 1 f f′ → Moved row at seen closed f (at - 3) (seen + 1) (set closed (h - 1) seen) f′
-    moved-one a =
-        moved-run u (ran-one t) (h - 1) 1 (omega (arith, z .from-one)) (omega (arith, z .from-one, z .up-to-last)) refl seen refl (omega (arith, t .three)) (omega arith) a
+    pub short-takes : Takes (h - 1) (seen′ - seen) (seen′ - seen) f
+    short-takes = takes at′ place (gains-short place short) u
 
-    -- several, one behind another
-    module _ {at′ seen′ : ℕ} (t′ : Ends row (at - 3) h) (r : Ran row h (at - 6) (seen + 2) at′ seen′) where
-      pub several-takes : Takes (h - 1) (seen′ - seen) (seen′ - seen) f
-      several-takes =
-          run-takes u (ran-then (ran-two t t′) r) (h - 1) (seen′ - seen) (omega (arith, z .from-one)) (omega (arith, z .from-one, z .up-to-last)) (omega (arith, r .no-less))
-
-      pub moved-several : {f′ : Counts} → Added (h - 1) (seen′ - seen) (seen′ - seen) 1 f f′ → Moved row at seen closed f at′ seen′ (set closed (h - 1) (seen′ - 1)) f′
-      moved-several a =
-          let more = r .no-less in
-          moved-run u (ran-then (ran-two t t′) r) (h - 1) (seen′ - seen) (omega (arith, z .from-one)) (omega (arith, z .from-one, z .up-to-last)) (omega arith) (seen′ - 1) (omega arith)
-          (omega (arith, t .three, r .no-further)) (omega arith) a
+    pub moved-short : {f′ : Counts} → Added (h - 1) (seen′ - seen) (seen′ - seen) 1 f f′ → Moved row at seen closed f at′ seen′ (set closed (h - 1) (seen′ - 1)) f′
+    moved-short a =
+        let l = r .no-less in
+        let one : min (seen′ - seen) 1 ≡ 1 = omega arith in
+        let e : seen′ - 1 + 1 ≡ seen′ = omega arith in
+        let e′ : seen + (seen′ - seen) ≡ seen′ = omega arith in
+        let own = rw e at (own-closing (seen′ - 1) (omega (arith, place)) (omega arith) short) in
+        record {
+          nearer = omega (arith, t .three, r .no-further);
+          on = λ f₀ b. behind-closing b (seen′ - 1) place (u .wide-closed) (omega (arith, b .few, short-longer short)) own
+              (λ p i o c. rw e′ at (other-closing (omega (arith, place)) (omega arith) (λ (k : suc (h - 1) ≡ suc p). o (omega arith)) short c)) (rw one at (gains-short place short)) a;
+        }

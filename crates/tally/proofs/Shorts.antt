@@ -1,7 +1,7 @@
 -- Turns of one byte in a row, by its tokens. Assumes nothing.
 use mathlib.Core.Path.{_≡_}
 use mathlib.Core.List.{List, _∷_}
-use Prim.Native.Nat.{ℕ, suc, _+_, _-_, _≤_}
+use Prim.Native.Nat.{ℕ, suc, _+_, _-_, _/_, _≤_}
 use native.Mathlib.Omega.{arith}
 use lib.ListN.{length, getD, drop}
 use lib.Seq.{drop-cons}
@@ -20,44 +20,25 @@ three-tokens row at l l′ =
     let e₃ : suc (at - 1) ≡ at = omega arith in
     rw (drop-cons row (at - 3) 0 (omega arith), e₁, drop-cons row (at - 2) 0 (omega arith), e₂, drop-cons row (at - 1) 0 (omega arith), e₃)
 
-pub short-turn : (row : List ℕ) (at h : ℕ) → 3 ≤ at → at ≤ length row → getD row (at - 1) 0 ≡ 128 + h → getD row (at - 3) 0 ≡ h → 256 ≤ getD row (at - 2) 0 → getD row (at - 2) 0 ≤ 511
-    → Ends row at h
-short-turn row at h l l′ closing opening low high =
+pub short-turn : (row : List ℕ) (at h : ℕ) → 3 ≤ at → at ≤ length row → getD row (at - 1) 0 ≡ 128 + h → getD row (at - 2) 0 / 256 ≡ 1 → getD row (at - 3) 0 ≡ h → Ends row at h
+short-turn row at h l l′ closing byte opening =
     record {
       three = l;
-      short = rw (three-tokens row at l l′, closing, opening) (one-turn low high no-turn);
+      short = rw (three-tokens row at l l′, closing, opening) (one-turn {b = getD row (at - 2) 0} (omega arith) (omega arith) no-turn);
     }
 
--- along a run
-pub ran-none : (row : List ℕ) (h at seen : ℕ) → Ran row h at seen at seen
+-- along a run: as many turns as there are tokens, by three
+pub ran-none : (row : List ℕ) (h at seen : ℕ) → Ran row h at seen at (seen + (at - at) / 3)
 ran-none row h at seen =
-    let e : seen - seen ≡ 0 = omega arith in
+    let e : seen + (at - at) / 3 - seen ≡ 0 = omega arith in
     record { no-further = omega arith; no-less = omega arith; short = rw e no-turn }
 
-pub ran-more : {row : List ℕ} {h at seen at′ seen′ : ℕ} → Ran row h at seen at′ seen′ → Ends row at′ h → Ran row h at seen (at′ - 3) (seen′ + 1)
-ran-more {seen = seen} {seen′ = seen′} r t =
-    let l = r .no-less in
-    let e : seen′ + 1 - seen ≡ 1 + (seen′ - seen) = omega arith in
-    record { no-further = omega (arith, r .no-further); no-less = omega arith; short = rw e (short-append (t .short) (r .short)) }
-
-pub ran-then : {row : List ℕ} {h at seen at′ seen′ at″ seen″ : ℕ} → Ran row h at seen at′ seen′ → Ran row h at′ seen′ at″ seen″ → Ran row h at seen at″ seen″
-ran-then {seen = seen} {seen′ = seen′} {seen″ = seen″} r r′ =
-    let l = r .no-less in
-    let l′ = r′ .no-less in
-    let e : seen″ - seen ≡ (seen″ - seen′) + (seen′ - seen) = omega arith in
-    record { no-further = omega (arith, r .no-further, r′ .no-further); no-less = omega arith; short = rw e (short-append (r′ .short) (r .short)) }
-
-pub ran-one : {row : List ℕ} {h at seen : ℕ} → Ends row at h → Ran row h at seen (at - 3) (seen + 1)
-ran-one {row} {h} {at} {seen} t = ran-more (ran-none row h at seen) t
-
-pub ran-two : {row : List ℕ} {h at seen : ℕ} → Ends row at h → Ends row (at - 3) h → Ran row h at seen (at - 6) (seen + 2)
-ran-two {at = at} {seen} t t′ =
-    let e : at - 3 - 3 ≡ at - 6 = omega arith in
-    let e′ : seen + 1 + 1 ≡ seen + 2 = omega arith in
-    rw (e, e′) at (ran-more {seen = seen} (ran-one t) t′)
-
-pub ran-short : {row : List ℕ} {h at seen at′ seen′ : ℕ} (k : ℕ) → seen′ ≡ seen + k → Ran row h at seen at′ seen′ → Short h k (drop at′ row) (drop at row)
-ran-short {seen = seen} {seen′ = seen′} k q r = let e : seen′ - seen ≡ k = omega arith in rw e at (r .short)
+pub ran-more : {row : List ℕ} {h at seen at′ : ℕ} → Ran row h at seen at′ (seen + (at - at′) / 3) → Ends row at′ h → Ran row h at seen (at′ - 3) (seen + (at - (at′ - 3)) / 3)
+ran-more {at = at} {seen} {at′} r t =
+    let l = r .no-further in
+    let l′ = t .three in
+    let e : seen + (at - (at′ - 3)) / 3 - seen ≡ 1 + (seen + (at - at′) / 3 - seen) = omega arith in
+    record { no-further = omega arith; no-less = omega arith; short = rw e (short-append (t .short) (r .short)) }
 
 -- a row with more turns in front has as many bytes more, at least
 pub short-longer : {h k : ℕ} {front row : List ℕ} → Short h k front row → length row + k ≤ length front

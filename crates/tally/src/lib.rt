@@ -38,21 +38,20 @@ fn add(
     }
 }
 
-// Whether a closing that stands before the place ends a turn of one byte.
+// Whether a closing of the mark ends a turn of one byte, if it stands before the place.
 fn wraps(row: &[u16], at: usize, mark: usize) -> bool
-    requires { ⌜ at ≤ length (now row) ⌝ ∗ ⌜ Closes (now row) at mark ⌝ }
-    ensures { λ r. ⌜ (r ≡ true → Ends (now (row .entry)) at mark) ⌝ }
+    requires { ⌜ at ≤ length (now row) ⌝ }
+    ensures { λ r. ⌜ (r ≡ true → Closes (now (row .entry)) at mark → Ends (now (row .entry)) at mark) ⌝ }
 {
     if at < 3 {
         return false;
     }
-    if row[at - 3] as usize != mark {
+    let byte = row[at - 2];
+    let opening = row[at - 3] as usize;
+    if byte / 256 != 1 {
         return false;
     }
-    if row[at - 2] < 256 {
-        return false;
-    }
-    row[at - 2] <= 511
+    opening == mark
 }
 
 // Whether such a turn ends at the place.
@@ -63,10 +62,12 @@ fn ends(row: &[u16], at: usize, mark: usize) -> bool
     if at < 3 {
         return false;
     }
-    if row[at - 1] as usize != mark + CLOSING {
+    let closing = row[at - 1] as usize;
+    let wrapped = wraps(row, at, mark);
+    if closing != mark + CLOSING {
         return false;
     }
-    wraps(row, at, mark)
+    wrapped
 }
 
 // All such turns that stand there behind each other.
@@ -75,12 +76,14 @@ fn run(row: &[u16], mark: usize, from: usize, behind: u64) -> Place
     ensures { λ r. ⌜ Ran (now (row .entry)) mark from behind (r .at) (r .seen) ⌝ }
 {
     let mut at = from;
-    let mut seen = behind;
     while ends(row, at, mark) {
         at -= 3;
-        seen += 1;
     }
-    Place { at: at, seen: seen }
+    let turns = (from - at) / 3;
+    Place {
+        at: at,
+        seen: behind + turns as u64,
+    }
 }
 
 // At an opening of the mark at place m: its turn is counted, if bytes stand before its next closing.
@@ -118,19 +121,11 @@ fn closing(
 {
     let m = mark - 1;
     if wraps(row, at, mark) {
-        if ends(row, at - 3, mark) {
-            let front = run(row, mark, at - 6, seen + 2);
-            let more = front.seen - seen;
-            closed[m] = front.seen - 1;
-            add(m, more, more, 1, turns, bytes, longest);
-            return front;
-        }
-        closed[m] = seen;
-        add(m, 1, 1, 1, turns, bytes, longest);
-        return Place {
-            at: at - 3,
-            seen: seen + 1,
-        };
+        let front = run(row, mark, at - 3, seen + 1);
+        let more = front.seen - seen;
+        closed[m] = front.seen - 1;
+        add(m, more, more, 1, turns, bytes, longest);
+        return front;
     }
     closed[m] = seen;
     Place {

@@ -40,6 +40,11 @@ fn find<'a>(
     let mut mask = [0u64; 256];
     let mut follow = [0u64; 64];
     let mut pre = [0u64; 64];
+    let mut nexts = [0u64; 256];
+    let mut befores = [0u64; 256];
+    let mut keys = [0u64; 256];
+    let mut links = [0u16; 1024];
+    let mut pool = [0u16; 1024];
     let last = prepare(
         kind,
         arg,
@@ -65,12 +70,18 @@ fn find<'a>(
         &follow,
         &pre,
         last,
+        &mut nexts,
+        &mut befores,
+        &mut keys,
+        &mut links,
+        &mut pool,
+        0,
         text,
         cells,
         tree,
     );
     clear(cells, text.len());
-    found
+    found.outcome
 }
 
 // Reads the pattern and finds the first tree of the text: its length, and whether there is another tree, whether or not the room holds it.

@@ -15,10 +15,10 @@ use Rattle.night.proofs.report.Statement.{statement}
 use Rattle.night.proofs.report.Tie as tie
 
 returns : tie.Need-returns
-returns c = λ e p. reported-long (p .rooted .few-marks) (omega arith)
+returns c = (λ e p. reported-long (p .rooted .few-marks) (omega arith), c .before .before .before .before .pre .1 .1 .1)
 
 seek-requires : tie.Need-seek-requires
-seek-requires c κs = let asked = c .before .before .before .before .before .before .pre in (asked .0, (omega arith, omega (arith, asked .1 .0)))
+seek-requires c κs = let asked = c .before .before .before .before .before .before .before .before .before .before .before .pre in (asked .0, ((omega arith, omega (arith, asked .1 .0)), asked .1 .1 .1))
 
 told-requires : tie.Need-told-requires
 told-requires c κs = search needs
@@ -30,16 +30,16 @@ abbrev sought : tie.After-told → tie.After-seek
 sought c = c .before .before .before .before .before
 
 abbrev entry : tie.After-seek → tie.Start
-entry c = c .before .before .before .before .before .before .before
+entry c = c .before .before .before .before .before .before .before .before .before .before .before .before
 
 short : (c : tie.After-told) → length (entry (sought c) .args .text .now) ≤ text-limit
 short c = omega arith
 
-cast-result : tie.Need-cast-result
-cast-result c =
+cast-t41 : tie.Need-cast-t41
+cast-t41 c =
     let told = c .before .before in
     let p = entry (sought told) .pre .0 .prepared in
-    let j = told-judged (sought told .seek .result) (told .told .ensures) (sought told .seek .ensures _ p .sought) in
+    let j = told-judged (sought told .seek .result .outcome) (told .told .ensures) (sought told .seek .ensures .0 _ p .sought) in
     omega (arith, c .before .number .ensures, report-number (judged (short told) j))
 
 same-length : tie.Need-same-length
@@ -49,11 +49,14 @@ same-length-2 : tie.Need-same-length-2
 same-length-2 c = search needs
 
 returns-2 : tie.Need-returns-2
-returns-2 c = λ e p.
-    let told = c .before .before in
-    let s = sought told .seek .ensures e p in
-    let j = told-judged (sought told .seek .result) (told .told .ensures) (s .sought) in
-    reported-none (p .rooted .few-marks) (short told) j (c .before .number .ensures) (c .if2 .taken) (past-night s (short told)) (s .same-cells)
+returns-2 c =
+    let told = c .before .before in (
+      λ e p.
+          let s = sought told .seek .ensures .0 e p in
+          let j = told-judged (sought told .seek .result .outcome) (told .told .ensures) (s .sought) in
+          reported-none (p .rooted .few-marks) (short told) j (c .before .number .ensures) (c .if2 .taken) (past-night s (short told)) (s .same-cells),
+      sought told .seek .ensures .1,
+    )
 
 value-requires : tie.Need-value-requires
 value-requires c κs = search needs
@@ -66,14 +69,14 @@ slice-reshare-prefix-tally : tie.Need-slice-reshare-prefix-tally
 slice-reshare-prefix-tally c =
     let told = c .before .before .before in
     let p = entry (sought told) .pre .0 .prepared in
-    let j = told-judged (sought told .seek .result) (told .told .ensures) (sought told .seek .ensures _ p .sought) in
+    let j = told-judged (sought told .seek .result .outcome) (told .told .ensures) (sought told .seek .ensures .0 _ p .sought) in
     omega (arith, c .value .ensures, front-fits (p .rooted .few-marks) (short told) j (zero (c .before)))
 
 slice-aggregate-tally : tie.Need-slice-aggregate-tally
 slice-aggregate-tally c =
     let told = c .before .before .before .before in
     let p = entry (sought told) .pre .0 .prepared in
-    let j = told-judged (sought told .seek .result) (told .told .ensures) (sought told .seek .ensures _ p .sought) in
+    let j = told-judged (sought told .seek .result .outcome) (told .told .ensures) (sought told .seek .ensures .0 _ p .sought) in
     sym (length-take-le _ _ (omega (arith, c .before .value .ensures, front-fits (p .rooted .few-marks) (short told) j (zero (c .before .before)))))
 
 tally-requires : tie.Need-tally-requires
@@ -82,8 +85,8 @@ tally-requires c κs =
     let told = valued .before .before .before in
     let asked = entry (sought told) .pre in
     let p = asked .0 .prepared in
-    let j = told-judged (sought told .seek .result) (told .told .ensures) (sought told .seek .ensures _ p .sought) in
-    rw (valued .value .ensures) (front-held (p .rooted .few-marks) (short told) j (zero (valued .before)) (asked .1 .1))
+    let j = told-judged (sought told .seek .result .outcome) (told .told .ensures) (sought told .seek .ensures .0 _ p .sought) in
+    rw (valued .value .ensures) (front-held (p .rooted .few-marks) (short told) j (zero (valued .before)) (asked .1 .1 .0))
 
 same-length-3 : tie.Need-same-length-3
 same-length-3 c = search needs
@@ -92,12 +95,15 @@ same-length-4 : tie.Need-same-length-4
 same-length-4 c = search needs
 
 returns-3 : tie.Need-returns-3
-returns-3 c = λ e p.
+returns-3 c =
     let valued = c .before .before .before .before .before in
-    let told = valued .before .before .before in
-    let s = sought told .seek .ensures e p in
-    let j = told-judged (sought told .seek .result) (told .told .ensures) (s .sought) in
-    reported-row (p .rooted .few-marks) (short told) j (zero (valued .before)) (past-night s (short told)) (s .same-cells) (rw (valued .value .ensures) at (c .tally .ensures))
+    let told = valued .before .before .before in (
+      λ e p.
+          let s = sought told .seek .ensures .0 e p in
+          let j = told-judged (sought told .seek .result .outcome) (told .told .ensures) (s .sought) in
+          reported-row (p .rooted .few-marks) (short told) j (zero (valued .before)) (past-night s (short told)) (s .same-cells) (rw (valued .value .ensures) at (c .tally .ensures)),
+      sought told .seek .ensures .1,
+    )
 
 pub report-spec : {M : Type 1} → statement M
 report-spec =
@@ -107,7 +113,7 @@ report-spec =
     seek-requires
     told-requires
     number-requires
-    cast-result
+    cast-t41
     same-length
     same-length-2
     returns-2

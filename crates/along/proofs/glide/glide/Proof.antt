@@ -1,7 +1,7 @@
 -- `along::glide::glide` meets its contract. The loop's invariant: the walk has come to where s stands. Assumes nothing.
 use mathlib.Core.Path.{sym, ap, _∙_}
 use mathlib.Core.Bool.{_&&_}
-use Prim.Native.Nat.{_+_, _-_, _≤_, _<_}
+use Prim.Native.Nat.{ℕ, _+_, _-_, _≤_, _<_}
 use native.Mathlib.Omega.{arith}
 use borrow.Author.Tests.{not-false}
 use lib.ListN as lists
@@ -10,6 +10,7 @@ use Rattle.sets.specs.declared.set.Set.{Set}
 use Rattle.sets.specs.Members.{has, limit}
 use Rattle.along.specs.Along.{Came, Goes}
 use Rattle.along.specs.Glide.{Guided, stood}
+use Rattle.along.specs.Links.{Kept}
 use Rattle.along.proofs.Coming.{came-here, came-then}
 use Rattle.along.proofs.Gliding.{Turn, glide-inside, glide-recalls, glide-came}
 use Rattle.along.proofs.Linking.{place-of}
@@ -17,11 +18,11 @@ use Rattle.along.proofs.glide.glide.Statement.{statement}
 use Rattle.along.proofs.glide.glide.Tie as tie
 
 abbrev Inv-loop : tie.InvT-loop
-Inv-loop follow text cells keys links tree₀ end s₀ tree s =
-    (s .read < lists.length text) × (s₀ .read ≤ s .read) × ((e : Re) → Guided e text cells follow → Goes e text keys keys links links tree₀ tree (stood s₀) (stood s) (s₀ .read) (s .read))
+Inv-loop follow text cells keys links pool tree₀ end s₀ tree s =
+    (s .read < lists.length text) × (s₀ .read ≤ s .read) × ((e : Re) (used : ℕ) → Guided e text cells follow → Kept e keys links pool used → Goes e text tree₀ tree (stood s₀) (stood s) (s₀ .read) (s .read))
 
 abbrev μ-loop : tie.MeasureT-loop
-μ-loop follow text cells keys links tree₀ end s₀ tree s = lists.length text - s .read
+μ-loop follow text cells keys links pool tree₀ end s₀ tree s = lists.length text - s .read
 
 sub-end : tie.Need-sub-end Inv-loop μ-loop
 sub-end c = omega (arith, c .before .before .before .pre .left)
@@ -37,15 +38,15 @@ entry c = c .before .before .before .before .before
 came : (c : Turns)
     → let asked = entry c .args in
     let now = c .before .loop in
-    Came (entry c .pre .e) (asked .text .now) (asked .keys .now) (asked .links .now) (asked .tree .now) (now .tree) (stood (asked .s)) (stood (now .s)) (asked .s .read) (now .s .read)
-came c = let asked = entry c .pre in c .before .loop .inv .2 (asked .e) (asked .guided) (asked .along) (asked .kept)
+    Came (entry c .pre .e) (asked .text .now) (asked .tree .now) (now .tree) (stood (asked .s)) (stood (now .s)) (asked .s .read) (now .s .read)
+came c = let asked = entry c .pre in c .before .loop .inv .2 (asked .e) (asked .used) (asked .guided) (asked .kept) (asked .along)
 
 -- the position where it stands
 inside : (c : Turns) → c .before .loop .s .position < limit
 inside c = glide-inside (entry c .pre .guided) (came c .along)
 
 loop-holds : tie.Need-loop-holds Inv-loop μ-loop
-loop-holds c = (c .before .before .before .pre .left, omega arith, λ e g a k. came-here a k)
+loop-holds c = (c .before .before .before .pre .left, omega arith, λ e u g k a. came-here a)
 
 add-load : tie.Need-add-load Inv-loop μ-loop
 add-load c = omega arith
@@ -111,8 +112,9 @@ recall-requires : tie.Need-recall-requires Inv-loop μ-loop
 recall-requires c κs =
     let found = c .before .before in
     let here = found .before .before .before .before .before .before .before .before .before .before in
-    let x = came here in
-    glide-recalls (entry here .pre .guided) (x .along) (turn found) (more (found .before .before .before .before .before .before .before .before .before)) (x .kept)
+    let asked = entry here .pre in
+    let left = more (found .before .before .before .before .before .before .before .before .before) in
+    glide-recalls (asked .guided) (came here .along) (turn found) left (asked .kept) (asked .few) (asked .all-tokens)
 
 loop-less : tie.Need-loop-less Inv-loop μ-loop
 loop-less c = omega (arith, c .before .before .recall .ensures .read)
@@ -125,9 +127,9 @@ loop-again c =
     let came-to = found .before .before .before .before .before .before .before .before .before .before .before .loop .inv in (
       omega (arith, recalled .read),
       omega (arith, recalled .read, came-to .1),
-      λ e g a k.
-          let x = came-to .2 e g a k in
-          came-then x (glide-came g (x .along) (turn found) left (x .kept) recalled (omega arith)),
+      λ e u g k a.
+          let x = came-to .2 e u g k a in
+          came-then x (glide-came g (x .along) (turn found) left k recalled (omega arith)),
     )
 
 same-length-2 : tie.Need-same-length-2 Inv-loop μ-loop

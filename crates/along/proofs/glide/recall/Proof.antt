@@ -3,6 +3,7 @@ use mathlib.Core.Path.{_≡_, refl, _∙_}
 use mathlib.Core.Bool.{_||_}
 use mathlib.Core.Logic.{⊎-elim}
 use Prim.Native.Nat.{_+_, _*_}
+use native.Mathlib.Omega.{arith}
 use lib.Dec.{eqb}
 use lib.ListN.{getD}
 use Rattle.walks.proofs.Written.{or-yes, or-no}
@@ -20,6 +21,9 @@ mul-position c = search needs
 element-copy-out-position : tie.Need-element-copy-out-position
 element-copy-out-position c = search needs
 
+cast-position : tie.Need-cast-position
+cast-position c = search needs
+
 add-from : tie.Need-add-from
 add-from c = search needs
 
@@ -29,6 +33,9 @@ mul-from c = search needs
 element-copy-out-from : tie.Need-element-copy-out-from
 element-copy-out-from c = search needs
 
+cast-from : tie.Need-cast-from
+cast-from c = search needs
+
 add-long : tie.Need-add-long
 add-long c = search needs
 
@@ -37,6 +44,9 @@ mul-long c = search needs
 
 element-copy-out-long : tie.Need-element-copy-out-long
 element-copy-out-long c = search needs
+
+cast-long : tie.Need-cast-long
+cast-long c = search needs
 
 add-other : tie.Need-add-other
 add-other c = search needs
@@ -53,11 +63,11 @@ letter-requires c κs = search needs
 lay-requires : tie.Need-lay-requires
 lay-requires c κs = search needs
 
-add-t13 : tie.Need-add-t13
-add-t13 c = search needs
+add-t14 : tie.Need-add-t14
+add-t14 c = search needs
 
-add-t19 : tie.Need-add-t19
-add-t19 c = search needs
+add-t18 : tie.Need-add-t18
+add-t18 c = search needs
 
 same-length : tie.Need-same-length
 same-length c = search needs
@@ -73,8 +83,8 @@ returns c =
     let letter = lettered .letter .ensures in
     let told = lettered .before .before in
     let asked = told .before .before .before .before .before .args in
-    let past = told .before .before .before .before .before .pre .past in
-    recalled (asked .links .now) (asked .tree .now) (asked .p) (asked .b) (asked .s) (letter .1) (letter .0) (laid .lay .ensures) past refl refl refl (other told)
+    let given = told .before .before .before .before .before .pre in
+    recalled (asked .links .now) (asked .pool .now) (asked .tree .now) (asked .p) (asked .b) (asked .s) (letter .1) (letter .0) (laid .lay .ensures) (omega (arith, given .past, given .all-tokens)) refl refl refl (other told)
 
 pub recall-spec : {M : Type 1} → statement M
 recall-spec =
@@ -83,18 +93,21 @@ recall-spec =
     mul-k
     mul-position
     element-copy-out-position
+    cast-position
     add-from
     mul-from
     element-copy-out-from
+    cast-from
     add-long
     mul-long
     element-copy-out-long
+    cast-long
     add-other
     mul-other
     element-copy-out-other
     letter-requires
     lay-requires
-    add-t13
-    add-t19
+    add-t14
+    add-t18
     same-length
     returns)

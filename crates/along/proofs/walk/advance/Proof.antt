@@ -20,7 +20,7 @@ load-requires c κs = search needs
 
 onward-requires : tie.Need-onward-requires
 onward-requires c κs =
-    let lettered = c .before .before .before .before .before .before in
+    let lettered = c .before .before .before .before .before .before .before in
     let asked = lettered .before .before .before .before .before .before .pre in
     (rw (lettered .letter .ensures .0) (asked .0 .linked), asked .1)
 
@@ -33,19 +33,19 @@ same-length c = search needs
 returns : tie.Need-returns
 returns c =
     let gone = c .before .before .before in
-    let went = gone .onward .ensures .0 in
-    let goal = gone .before .before .before .before in
+    let went = gone .onward .ensures in
+    let goal = gone .before .before .before .before .before in
     let lettered = goal .before .before .before in
     let letter = lettered .letter .ensures in
     let asked = lettered .before .before .before .before .before .before .args in
-    let left = lettered .before .before .before .before .before .before .pre .0 .left in
-    record {
-      same-keys = went .same-keys;
-      same-links = went .same-links;
-      goes = λ e w a k.
-          let last = ended-at (asked .text .now) (asked .s .read + 1) (omega (arith, left)) in
-          walk-came w left a k (goal .load .ensures) last (letter .0) (letter .1) went (c .also .ensures);
-    }
+    let left = lettered .before .before .before .before .before .before .pre .0 .left in (
+      record {
+        goes = λ e w a.
+            let last = ended-at (asked .text .now) (asked .s .read + 1) (omega (arith, left)) in
+            walk-came w left a (goal .load .ensures) last (letter .0) (letter .1) (went .0) (c .also .ensures);
+      },
+      went .1,
+    )
 
 pub advance-spec : {M : Type 1} → statement M
 advance-spec =

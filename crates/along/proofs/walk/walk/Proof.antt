@@ -1,25 +1,25 @@
--- `along::walk::walk` meets its contract. The loop's invariant: whatever the root holds, the walk has come along i bytes. Assumes nothing.
-use mathlib.Core.Path.{_≡_, refl, _∙_}
+-- `along::walk::walk` meets its contract. The loop's invariant: whatever the root holds, the walk has come along i bytes, and what is kept is
+-- right. Assumes nothing.
+use mathlib.Core.Path.{_∙_}
 use mathlib.Core.List.{List}
 use Prim.Native.Nat.{ℕ, _-_, _≤_, _<_}
 use native.Mathlib.Omega.{arith}
 use lib.ListN as lists
 use Rattle.meaning.specs.Expression.{Re}
-use Rattle.sets.specs.Members.{rows}
 use Rattle.along.specs.Along.{Along, Came}
+use Rattle.along.specs.Links.{Stock}
 use Rattle.along.specs.Walk.{Walkable}
 use Rattle.along.proofs.Coming.{came-here, came-then}
-use Rattle.along.proofs.Linking.{kept-none}
 use Rattle.along.proofs.Advance.{ended-zero, walk-start, start-beyond, walk-glides, walk-glided, walk-linked, walk-ready, walk-end}
 use Rattle.along.proofs.walk.walk.Statement.{statement}
 use Rattle.along.proofs.walk.walk.Tie as tie
 
 abbrev Inv-loop : tie.InvT-loop
-Inv-loop kind arg null first upto follow root text cells tree₀ n s₀ keys₀ links₀ i₀ tree s keys links i =
-    (i ≤ lists.length text) × ((e : Re) → Walkable e kind arg root text cells → Along e text tree₀ s₀ 0 → Came e text keys links tree₀ tree s₀ s 0 i) × (rows keys ≡ 256) × (lists.length links ≡ 1024)
+Inv-loop kind arg null first upto follow root text cells keys₀ links₀ pool₀ used₀ tree₀ n s₀ used₁ i₀ keys links pool tree s used i =
+    (i ≤ lists.length text) × ((e : Re) → Walkable e kind arg root text cells → Along e text tree₀ s₀ 0 → Came e text tree₀ tree s₀ s 0 i) × Stock kind arg root keys links pool used
 
 abbrev μ-loop : tie.MeasureT-loop
-μ-loop kind arg null first upto follow root text cells tree₀ n s₀ keys₀ links₀ i₀ tree s keys links i = lists.length text - i
+μ-loop kind arg null first upto follow root text cells keys₀ links₀ pool₀ used₀ tree₀ n s₀ used₁ i₀ keys links pool tree s used i = lists.length text - i
 
 load-requires : tie.Need-load-requires Inv-loop μ-loop
 load-requires c κs = omega (arith, c .before .before .before .pre .0 .walkable .enough)
@@ -27,7 +27,7 @@ load-requires c κs = omega (arith, c .before .before .before .pre .0 .walkable 
 enter-requires : tie.Need-enter-requires Inv-loop μ-loop
 enter-requires c κs =
     let asked = c .before .before .before .before .before .pre in
-    (walk-ready (asked .0 .walkable), asked .1 .scanned)
+    (walk-ready (asked .0 .walkable), asked .1 .0 .scanned)
 
 -- what is asked, once the root is entered, of any e that the root may hold
 abbrev Entered : Type 0
@@ -56,7 +56,7 @@ started c e w =
 came : (c : tie.At-loop Inv-loop μ-loop) (e : Re) → Asked (c .before) e
     → let now = c .loop in
     let start = c .before in
-    Came e (text-of start) (now .keys) (now .links) (tree-of start) (now .tree) (start .before .before .enter .result) (now .s) 0 (now .i)
+    Came e (text-of start) (tree-of start) (now .tree) (start .before .before .enter .result) (now .s) 0 (now .i)
 came c e w = c .loop .inv .1 e w (started (c .before) e w)
 
 -- a byte is left
@@ -64,55 +64,53 @@ more : (c : tie.In-loop Inv-loop μ-loop) → c .before .loop .i < lists.length 
 more c = omega arith
 
 loop-holds : tie.Need-loop-holds Inv-loop μ-loop
-unfolding rows
-loop-holds c = (omega arith, λ e w a. came-here a (kept-none e 256 _ _ _), refl, refl)
+loop-holds c = (omega arith, λ e w a. came-here a, entry c .pre .1 .1)
 
 stand-requires : tie.Need-stand-requires Inv-loop μ-loop
 stand-requires c κs = tt
 
 glide-requires : tie.Need-glide-requires Inv-loop μ-loop
 glide-requires c κs =
-    let here = c .before .before .before .before .before in
+    let here = c .before .before .before .before .before .before in
     let asked = entry (here .before) .pre in
     let w = asked .0 .walkable in
-    walk-glides w (asked .1) (came here _ w) (more (c .before .before .before .before)) (c .stand .ensures) (here .loop .inv .2)
+    walk-glides w (asked .1 .0) (came here _ w) (more (c .before .before .before .before .before)) (c .stand .ensures) (here .loop .inv .2)
 
 add-i : tie.Need-add-i Inv-loop μ-loop
 add-i c =
-    let start = c .before .before .before .before .before .before .before .before .before .before in
+    let start = c .before .before .before .before .before .before .before .before .before .before .before in
     omega (arith, c .before .before .before .glide .ensures .left, entry start .pre .0 .walkable .short)
 
 advance-requires : tie.Need-advance-requires Inv-loop μ-loop
 advance-requires c κs =
-    let glided = c .before .before .before .before .before .before in
+    let glided = c .before .before .before .before .before .before .before in
     let gone = glided .glide .ensures in
-    let here = glided .before .before .before .before .before .before in
-    let kept = here .loop .inv in
+    let here = glided .before .before .before .before .before .before .before in
     let asked = entry (here .before) .pre in
     let w = asked .0 .walkable in
-    let x = walk-glided w (asked .1) (came here _ w) (more (glided .before .before .before .before .before)) (glided .before .stand .ensures) gone in
-    (record { linked = walk-linked w (gone .left) (x .along) (kept .2) (kept .3); left = gone .left; enough = w .enough }, asked .1)
+    let stock = here .loop .inv .2 in
+    let x = walk-glided w (asked .1 .0) (came here _ w) (more (glided .before .before .before .before .before .before)) (glided .before .stand .ensures) stock gone in
+    (record { linked = walk-linked w (gone .left) (x .along); left = gone .left; enough = w .enough }, (asked .1 .0, stock))
 
 loop-less : tie.Need-loop-less Inv-loop μ-loop
 loop-less c =
-    let glided = c .before .before .before .before .before .before .before .before .before in
+    let glided = c .before .before .before .before .before .before .before .before .before .before in
     let gone = glided .glide .ensures in
     omega (arith, glided .before .stand .ensures .read, gone .on, gone .left)
 
 loop-again : tie.Need-loop-again Inv-loop μ-loop
 loop-again c =
     let on = c .before .before .advance .ensures in
-    let glided = c .before .before .before .before .before .before .before .before .before in
+    let glided = c .before .before .before .before .before .before .before .before .before .before in
     let gone = glided .glide .ensures in
-    let here = glided .before .before .before .before .before .before in
+    let here = glided .before .before .before .before .before .before .before in
     let came-to = here .loop .inv in
-    let left = more (glided .before .before .before .before .before) in (
+    let left = more (glided .before .before .before .before .before .before) in (
       omega (arith, gone .left),
       λ e w a.
-          let x = walk-glided w (entry (here .before) .pre .1) (came-to .1 e w a) left (glided .before .stand .ensures) gone in
-          came-then x (on .goes e w (x .along) (x .kept)),
-      on .same-keys ∙ came-to .2,
-      on .same-links ∙ came-to .3,
+          let x = walk-glided w (entry (here .before) .pre .1 .0) (came-to .1 e w a) left (glided .before .stand .ensures) (came-to .2) gone in
+          came-then x (on .0 .goes e w (x .along)),
+      on .1,
     )
 
 ended-requires : tie.Need-ended-requires Inv-loop μ-loop
@@ -125,9 +123,12 @@ same-length c =
     came here _ w .beyond .same-length ∙ start-beyond w (here .before .before .before .enter .ensures) .same-length
 
 returns : tie.Need-returns Inv-loop μ-loop
-returns c = λ e w.
+returns c =
     let here = c .before .before in
-    walk-end w (start-beyond w (here .before .before .before .enter .ensures)) (came here e w) (omega arith) (c .ended .ensures .0) (c .ended .ensures .1)
+    let end = c .ended .ensures in (
+      λ e w. walk-end w (start-beyond w (here .before .before .before .enter .ensures)) (came here e w) (omega arith) (end .0) (end .1 .0),
+      rw (end .1 .1) (here .loop .inv .2),
+    )
 
 pub walk-spec : {M : Type 1} → statement M
 walk-spec =

@@ -9,18 +9,17 @@ use Rattle.sets.specs.declared.set.Set.{Set}
 use Rattle.sets.specs.Members.{rows}
 use Rattle.passes.specs.Ways.{Memo, Preceding}
 use Rattle.sets.proofs.SetLaws.{zeros-empty}
-use Rattle.passes.proofs.Memos.{memo-none}
 use Rattle.passes.proofs.Rests.{Going, going-none, going-last, going-more, going-all, made-more}
 use Rattle.passes.proofs.backward.backward.Statement.{statement}
 use Rattle.passes.proofs.backward.backward.Tie as tie
 
 abbrev Inv-loop : tie.InvT-loop
-Inv-loop text mask pre cells₀ n keys₀ sets₀ i₀ next₀ cells keys sets i next =
+Inv-loop text mask pre keys₀ sets₀ cells₀ n i₀ next₀ keys sets cells i next =
     (i < length text) × (rows cells ≡ rows cells₀) × Memo mask pre keys sets
     × ((follow : List ℕ) (ends : Set) (l : List ℕ) → Preceding follow pre → Going mask follow ends text l cells₀ next₀ i₀ → Going mask follow ends text l cells next i)
 
 abbrev μ-loop : tie.MeasureT-loop
-μ-loop text mask pre cells₀ n keys₀ sets₀ i₀ next₀ cells keys sets i next = i
+μ-loop text mask pre keys₀ sets₀ cells₀ n i₀ next₀ keys sets cells i next = i
 
 -- before the loop: there is a byte, and what is asked
 abbrev begun : tie.At-loop Inv-loop μ-loop → tie.Else1 Inv-loop μ-loop
@@ -40,10 +39,10 @@ unfolding rows
 same-length c = c .before .before .before .store .ensures .same-rows
 
 returns : tie.Need-returns Inv-loop μ-loop
-returns c = λ follow P.
+returns c =
     let stored = c .before .before .before .store .ensures in
     let none = c .before .before .before .before .before .empty .ensures in
-    going-all _ _ _ _ _ _ _ none stored _ _ _ (going-none _ _ _ _ _ _ _ none stored) (omega arith)
+    (λ follow P. going-all _ _ _ _ _ _ _ none stored _ _ _ (going-none _ _ _ _ _ _ _ none stored) (omega arith), c .before .before .before .before .before .before .before .before .before .before .pre .1)
 
 sub-i : tie.Need-sub-i Inv-loop μ-loop
 sub-i c = omega arith
@@ -59,7 +58,7 @@ cast-load c =
 load-requires : tie.Need-load-requires Inv-loop μ-loop
 load-requires c κs =
     let asked = c .before .before .before .before .before .before .before .before .before .before .before in
-    omega (arith, asked .pre, c .shared-slice-known4 .given (length (asked .args .text .now) - 1))
+    omega (arith, asked .pre .0, c .shared-slice-known4 .given (length (asked .args .text .now) - 1))
 
 meet-requires : tie.Need-meet-requires Inv-loop μ-loop
 meet-requires c κs = tt
@@ -69,7 +68,7 @@ store-requires-2 c κs = omega (arith, c .before .before .before .before .before
 
 loop-holds : tie.Need-loop-holds Inv-loop μ-loop
 unfolding rows
-loop-holds c = (omega arith, refl, memo-none _ _ 256 (omega arith), λ follow ends l P G. G)
+loop-holds c = (omega arith, refl, entry (c .before .before .before .before .before .before .before) .pre .1, λ follow ends l P G. G)
 
 sub-i-2 : tie.Need-sub-i-2 Inv-loop μ-loop
 sub-i-2 c = omega arith
@@ -80,7 +79,7 @@ shared-slice-read-recall c = omega (arith, c .before .before .before .before .lo
 recall-requires : tie.Need-recall-requires Inv-loop μ-loop
 recall-requires c κs =
     let here = c .before .before .before .before in
-    let asked = entry (begun here) .pre in
+    let asked = entry (begun here) .pre .0 in
     (asked .0, asked .1, here .loop .inv .2)
 
 -- as many cells as there were
@@ -93,7 +92,7 @@ same-cells c =
 store-requires-3 : tie.Need-store-requires-3 Inv-loop μ-loop
 store-requires-3 c κs =
     let here = c .before .before .before .before .before .before in
-    omega (arith, entry (begun here) .pre .2, here .loop .inv .0, same-cells here)
+    omega (arith, entry (begun here) .pre .0 .2, here .loop .inv .0, same-cells here)
 
 loop-less : tie.Need-loop-less Inv-loop μ-loop
 loop-less c = omega arith
@@ -130,15 +129,18 @@ done : (c : tie.After-loop Inv-loop μ-loop) → c .before .loop .i ≤ 0
 done c = omega arith
 
 returns-2 : tie.Need-returns-2 Inv-loop μ-loop
-returns-2 c = λ follow P.
+returns-2 c =
     let here = c .before in
     let first = here .before .before .before in
     let stored = first .before .before .before .before .before .before .before .before .store .ensures in
     let none = first .before .before .before .before .before .before .before .before .before .before .empty .ensures in
-    let met = first .before .before in
-    going-all _ _ _ _ _ _ _ none stored _ _ _
-    (here .loop .inv .3 follow _ _ P (going-last _ _ _ _ _ _ _ none stored _ _ _ (some (begun here)) (met .before .load .ensures) (met .meet .ensures) (first .store2 .ensures)))
-    (done c)
+    let met = first .before .before in (
+      λ follow P.
+          going-all _ _ _ _ _ _ _ none stored _ _ _
+          (here .loop .inv .3 follow _ _ P (going-last _ _ _ _ _ _ _ none stored _ _ _ (some (begun here)) (met .before .load .ensures) (met .meet .ensures) (first .store2 .ensures)))
+          (done c),
+      here .loop .inv .2,
+    )
 
 pub backward-spec : {M : Type 1} → statement M
 backward-spec =

@@ -52,49 +52,60 @@ room-for-requires : tie.Need-room-for-requires
 room-for-requires c κs = let j = c .before .before .before .before .before .before .pre .0 .judgeable in (omega (arith, j .rooted .marks-are, j .rooted .few-marks), j .short)
 
 walk-requires : tie.Need-walk-requires
-walk-requires c κs = walks (c .before .before .before)
+walk-requires c κs = let here = c .before .before .before .before .before .before in let w = walks here in (w .0, (w .1, entry (here .before) .pre .1 .1 .1))
 
 same-length : tie.Need-same-length
 same-length c = search needs
 
 -- at once, into a room for every tree
 returns : tie.Need-returns
-returns c = λ e j.
-    let fitting = c .before .before .before .before in
+returns c =
+    let fitting = c .before .before .before .before .before .before .before in
     let here = fitting .before .before in
     let asked = entry (here .before) .args in
-    let y = yes here e j in
-    let w = c .before .before .walk .ensures e (judge-walkable j y) in
-    let fits = judge-fits j y (fitting .before .room-for .ensures) (fitting .if2 .taken) in
-    judge-tree j y (w .measures) (w .row ∙ kept-whole (firstRow e (asked .text .now)) (asked .tree .now) fits)
+    let walked = c .before .before .walk .ensures in (
+      λ e j.
+          let y = yes here e j in
+          let w = walked .0 e (judge-walkable j y) in
+          let fits = judge-fits j y (fitting .before .room-for .ensures) (fitting .if2 .taken) in
+          judge-tree j y (w .measures) (w .row ∙ kept-whole (firstRow e (asked .text .now)) (asked .tree .now) fits),
+      walked .1,
+    )
 
 measure-requires : tie.Need-measure-requires
-measure-requires c κs = walks (c .before .before)
+measure-requires c κs = let here = c .before .before .before .before .before in let w = walks here in (w .0, (w .1, entry (here .before) .pre .1 .1 .1))
 
 walk-requires-2 : tie.Need-walk-requires-2
-walk-requires-2 c κs = walks (c .before .before .before .before .before)
+walk-requires-2 c κs = let w = walks (c .before .before .before .before .before .before .before .before .before .before .before) in (w .0, (w .1, c .before .before .before .before .before .measure .ensures .1))
 
 same-length-2 : tie.Need-same-length-2
 same-length-2 c = search needs
 
 returns-2 : tie.Need-returns-2
-returns-2 c = λ e j.
-    let measured = c .before .before .before .before .before in
-    let here = measured .before .before .before in
+returns-2 c =
+    let measured = c .before .before .before .before .before .before .before .before in
+    let here = measured .before .before .before .before .before .before in
     let asked = entry (here .before) .args in
-    let y = yes here e j in
-    let w = judge-walkable j y in
-    let m = measured .measure .ensures e w in
-    let written = c .before .before .walk2 .ensures e w .row in
-    judge-tree j y m (written ∙ kept-whole (firstRow e (asked .text .now)) (asked .tree .now) (omega (arith, m .long, c .before .before .before .before .if3 .taken)))
+    let walked = c .before .before .walk2 .ensures in (
+      λ e j.
+          let y = yes here e j in
+          let w = judge-walkable j y in
+          let m = measured .measure .ensures .0 e w in
+          judge-tree j y m (walked .0 e w .row ∙ kept-whole (firstRow e (asked .text .now)) (asked .tree .now) (omega (arith, m .long, c .before .before .before .before .before .before .before .if3 .taken))),
+      walked .1,
+    )
 
 returns-3 : tie.Need-returns-3
-returns-3 c = λ e j.
-    let here = c .before .before .before .before in
+returns-3 c =
+    let here = c .before .before .before .before .before .before .before in
     let asked = entry (here .before) .args in
-    let y = yes here e j in
-    let m = c .before .measure .ensures e (judge-walkable j y) in
-    judge-tree j y m (kept-none (firstRow e (asked .text .now)) (asked .tree .now) (omega (arith, m .long, c .if3 .left)))
+    let measured = c .before .measure .ensures in (
+      λ e j.
+          let y = yes here e j in
+          let m = measured .0 e (judge-walkable j y) in
+          judge-tree j y m (kept-none (firstRow e (asked .text .now)) (asked .tree .now) (omega (arith, m .long, c .if3 .left))),
+      measured .1,
+    )
 
 load-requires-2 : tie.Need-load-requires-2
 load-requires-2 c κs = search needs
@@ -103,12 +114,13 @@ place-requires : tie.Need-place-requires
 place-requires c κs = search needs
 
 returns-4 : tie.Need-returns-4
-returns-4 c = λ e j.
+returns-4 c =
     let shut = c .before .before .before .before .before in
     let asked = entry (shut .before) .args in
-    let no = sym (told (shut .before) e j) ∙ shut .if1 .left in
-    let loaded = ap (λ (u : Set). readable (asked .mask .now) (asked .follow .now) (has u) (asked .text .now)) (c .before .load2 .ensures) in
-    judge-none j no (c .place .ensures ∙ loaded)
+    let loaded = ap (λ (u : Set). readable (asked .mask .now) (asked .follow .now) (has u) (asked .text .now)) (c .before .load2 .ensures) in (
+      λ e j. judge-none j (sym (told (shut .before) e j) ∙ shut .if1 .left) (c .place .ensures ∙ loaded),
+      entry (shut .before) .pre .1 .1 .1,
+    )
 
 pub judge-spec : {M : Type 1} → statement M
 judge-spec =

@@ -10,7 +10,7 @@ walk-requires : tie.Need-walk-requires
 walk-requires c κs = search needs
 
 returns : tie.Need-returns
-returns c = λ e w. c .before .walk .ensures e w .measures
+returns c = let walked = c .before .walk .ensures in (λ e w. walked .0 e w .measures, walked .1)
 
 pub measure-spec : {M : Type 1} → statement M
 measure-spec = tie.close (tie.spec slice-aggregate-walk walk-requires returns)

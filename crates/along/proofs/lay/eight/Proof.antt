@@ -1,16 +1,16 @@
--- `along::glide::eight` meets its contract. Assumes nothing.
+-- `along::lay::eight` meets its contract. Assumes nothing.
 use native.Mathlib.Omega.{arith}
 use lib.ListN.{length-set}
 use Rattle.along.proofs.Copying.{eight-laid}
 use borrow.Author.Needs.{needs}
-use Rattle.along.proofs.glide.eight.Statement.{statement}
-use Rattle.along.proofs.glide.eight.Tie as tie
+use Rattle.along.proofs.lay.eight.Statement.{statement}
+use Rattle.along.proofs.lay.eight.Tie as tie
 
 mul-a : tie.Need-mul-a
 mul-a c = search needs
 
-slice-read-a : tie.Need-slice-read-a
-slice-read-a c = search needs
+element-copy-out-a : tie.Need-element-copy-out-a
+element-copy-out-a c = search needs
 
 add-b : tie.Need-add-b
 add-b c = search needs
@@ -18,8 +18,8 @@ add-b c = search needs
 mul-b : tie.Need-mul-b
 mul-b c = search needs
 
-slice-read-b : tie.Need-slice-read-b
-slice-read-b c = search needs
+element-copy-out-b : tie.Need-element-copy-out-b
+element-copy-out-b c = search needs
 
 add-c : tie.Need-add-c
 add-c c = search needs
@@ -27,8 +27,8 @@ add-c c = search needs
 mul-c : tie.Need-mul-c
 mul-c c = search needs
 
-slice-read-c : tie.Need-slice-read-c
-slice-read-c c = search needs
+element-copy-out-c : tie.Need-element-copy-out-c
+element-copy-out-c c = search needs
 
 add-d : tie.Need-add-d
 add-d c = search needs
@@ -36,8 +36,8 @@ add-d c = search needs
 mul-d : tie.Need-mul-d
 mul-d c = search needs
 
-slice-read-d : tie.Need-slice-read-d
-slice-read-d c = search needs
+element-copy-out-d : tie.Need-element-copy-out-d
+element-copy-out-d c = search needs
 
 add-e : tie.Need-add-e
 add-e c = search needs
@@ -45,8 +45,8 @@ add-e c = search needs
 mul-e : tie.Need-mul-e
 mul-e c = search needs
 
-slice-read-e : tie.Need-slice-read-e
-slice-read-e c = search needs
+element-copy-out-e : tie.Need-element-copy-out-e
+element-copy-out-e c = search needs
 
 add-f : tie.Need-add-f
 add-f c = search needs
@@ -54,8 +54,8 @@ add-f c = search needs
 mul-f : tie.Need-mul-f
 mul-f c = search needs
 
-slice-read-f : tie.Need-slice-read-f
-slice-read-f c = search needs
+element-copy-out-f : tie.Need-element-copy-out-f
+element-copy-out-f c = search needs
 
 add-g : tie.Need-add-g
 add-g c = search needs
@@ -63,8 +63,8 @@ add-g c = search needs
 mul-g : tie.Need-mul-g
 mul-g c = search needs
 
-slice-read-g : tie.Need-slice-read-g
-slice-read-g c = search needs
+element-copy-out-g : tie.Need-element-copy-out-g
+element-copy-out-g c = search needs
 
 add-h : tie.Need-add-h
 add-h c = search needs
@@ -72,8 +72,8 @@ add-h c = search needs
 mul-h : tie.Need-mul-h
 mul-h c = search needs
 
-slice-read-h : tie.Need-slice-read-h
-slice-read-h c = search needs
+element-copy-out-h : tie.Need-element-copy-out-h
+element-copy-out-h c = search needs
 
 mul-tree : tie.Need-mul-tree
 mul-tree c = search needs
@@ -150,35 +150,35 @@ same-length c = simp length-set
 returns : tie.Need-returns
 returns c =
     let asked = c .before .before .before .before .before .before .before .before .args in
-    eight-laid (asked .tree .now) (asked .from) (asked .at)
+    eight-laid (asked .pool .now) (asked .tree .now) (asked .from) (asked .at)
 
 pub eight-spec : {M : Type 1} → statement M
 eight-spec =
     tie.close
     (tie.spec
     mul-a
-    slice-read-a
+    element-copy-out-a
     add-b
     mul-b
-    slice-read-b
+    element-copy-out-b
     add-c
     mul-c
-    slice-read-c
+    element-copy-out-c
     add-d
     mul-d
-    slice-read-d
+    element-copy-out-d
     add-e
     mul-e
-    slice-read-e
+    element-copy-out-e
     add-f
     mul-f
-    slice-read-f
+    element-copy-out-f
     add-g
     mul-g
-    slice-read-g
+    element-copy-out-g
     add-h
     mul-h
-    slice-read-h
+    element-copy-out-h
     mul-tree
     slice-write-tree
     add-tree

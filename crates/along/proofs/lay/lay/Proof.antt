@@ -1,10 +1,10 @@
--- `along::glide::lay` meets its contract. Assumes nothing.
+-- `along::lay::lay` meets its contract. Assumes nothing.
 use native.Mathlib.Omega.{arith}
 use borrow.Author.Tests.{leb-true}
 use Rattle.along.proofs.Copying.{laid-spare}
 use borrow.Author.Needs.{needs}
-use Rattle.along.proofs.glide.lay.Statement.{statement}
-use Rattle.along.proofs.glide.lay.Tie as tie
+use Rattle.along.proofs.lay.lay.Statement.{statement}
+use Rattle.along.proofs.lay.lay.Tie as tie
 
 add-if1 : tie.Need-add-if1
 add-if1 c = search needs

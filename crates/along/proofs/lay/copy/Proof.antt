@@ -1,19 +1,20 @@
--- `along::glide::copy` meets its contract. The loop's invariant: the first i tokens are copied. Assumes nothing.
-use Prim.Native.Nat.{_+_, _-_, _≤_}
+-- `along::lay::copy` meets its contract. The loop's invariant: the first i tokens are copied. Assumes nothing.
+use mathlib.Core.Path.{refl}
+use Prim.Native.Nat.{_-_, _≤_}
 use native.Mathlib.Omega.{arith}
 use Rattle.along.specs.Rows.{Laid}
 use Rattle.along.proofs.Copying.{laid-none, laid-next, laid-out, laid-spare}
-use Rattle.along.proofs.glide.copy.Statement.{statement}
-use Rattle.along.proofs.glide.copy.Tie as tie
+use Rattle.along.proofs.lay.copy.Statement.{statement}
+use Rattle.along.proofs.lay.copy.Tie as tie
 
 abbrev Inv-loop : tie.InvT-loop
-Inv-loop tree₀ from long at i₀ tree i = (i ≤ long) × Laid tree₀ tree from i at 0
+Inv-loop pool from long tree₀ at i₀ tree i = (i ≤ long) × Laid pool tree₀ tree from i at 0
 
 abbrev μ-loop : tie.MeasureT-loop
-μ-loop tree₀ from long at i₀ tree i = long - i
+μ-loop pool from long tree₀ at i₀ tree i = long - i
 
 loop-holds : tie.Need-loop-holds Inv-loop μ-loop
-loop-holds c = (omega arith, laid-none _ _ _)
+loop-holds c = (omega arith, laid-none _ _ _ _)
 
 add-there : tie.Need-add-there Inv-loop μ-loop
 add-there c = omega (arith, c .before .before .pre)
@@ -30,8 +31,8 @@ add-tree c = omega (arith, c .before .before .before .pre)
 mul-tree : tie.Need-mul-tree Inv-loop μ-loop
 mul-tree c = omega (arith, c .before .before .before .pre)
 
-slice-read-tree : tie.Need-slice-read-tree Inv-loop μ-loop
-slice-read-tree c = omega (arith, c .before .before .before .before .pre)
+element-copy-out-tree : tie.Need-element-copy-out-tree Inv-loop μ-loop
+element-copy-out-tree c = omega (arith, c .before .before .before .pre)
 
 mul-tree-2 : tie.Need-mul-tree-2 Inv-loop μ-loop
 mul-tree-2 c = omega (arith, c .before .before .before .before .pre)
@@ -48,10 +49,8 @@ loop-less c = omega arith
 loop-again : tie.Need-loop-again Inv-loop μ-loop
 loop-again c =
     let turn = c .before .before .before in
-    let i = turn .loop .i in
-    let laid = turn .loop .inv .1 in
     let asked = turn .before .args in
-    (omega arith, laid-next _ (asked .from) (asked .at) i laid (laid .below .same (asked .from + i) (omega (arith, turn .before .pre))))
+    (omega arith, laid-next _ _ (asked .from) (asked .at) (turn .loop .i) (turn .loop .inv .1) refl)
 
 same-length-2 : tie.Need-same-length-2 Inv-loop μ-loop
 same-length-2 c = c .before .loop .inv .1 .below .same-length
@@ -71,7 +70,7 @@ copy-spec =
     returns
     add-tree
     mul-tree
-    slice-read-tree
+    element-copy-out-tree
     mul-tree-2
     slice-write-tree
     add-i
