@@ -36,17 +36,19 @@ pub record Counts (rows : List (List ℕ)) (turns bytes longest : List ℕ) : Ty
   pub bytes-of : (m : ℕ) → m < mark-limit → getD bytes m 0 ≡ sum (map (bytes-read (suc m)) rows)
   pub longest-of : (m : ℕ) → m < mark-limit → getD longest m 0 ≡ greatest (map (longest-turn (suc m)) rows)
 
--- all reports
-pub record Passed (e : Re) (bytes lengths cells cells′ room room′ numbers turns′ bytes′ longest′ : List ℕ) : Type 0 where
+-- all reports: judged in turn, and the rows that count are counted
+pub record Totals (e : Re) (bytes lengths room room′ numbers turns′ bytes′ longest′ : List ℕ) : Type 0 where
   pub rows : List (List ℕ)
   pub night : Night e (reports-in lengths bytes) room (take (length lengths) numbers) rows room′
   pub counts : Counts rows turns′ bytes′ longest′
+
+-- with the cells of a night in use
+pub record Passed (e : Re) (bytes lengths cells cells′ room room′ numbers turns′ bytes′ longest′ : List ℕ) : Type 0 where
+  pub totals : Totals e bytes lengths room room′ numbers turns′ bytes′ longest′
   pub past : drop night-cells cells′ ≡ drop night-cells cells
   pub same-cells : length cells′ ≡ length cells
 
--- all of them, and the cells of a night cleared
+-- with the cells of a night cleared
 pub record Nightly (e : Re) (bytes lengths cells cells′ room room′ numbers turns′ bytes′ longest′ : List ℕ) : Type 0 where
-  pub rows : List (List ℕ)
-  pub night : Night e (reports-in lengths bytes) room (take (length lengths) numbers) rows room′
-  pub counts : Counts rows turns′ bytes′ longest′
+  pub totals : Totals e bytes lengths room room′ numbers turns′ bytes′ longest′
   pub clear : cells′ ≡ replicate night-cells 0 ++ drop night-cells cells

@@ -89,8 +89,8 @@ module _ (e : Re) (bytes lengths last cells room sheet : List ℕ) (k M : ℕ) (
   module _ {cells′ room′ sheet′ numbers turns bs longest : List ℕ} {v : ℕ} (few : marks e ≤ mark-limit)
       (N : Nightly e bytes lengths cells cells′ room room′ numbers turns bs longest)
       (W : Wrote sheet 0 (sheet-text (take (length lengths) numbers) (records-from turns bs longest 0 M) last) sheet′ v) where
-    the-records : records-from turns bs longest 0 M ≡ tonight e (N .rows)
-    the-records = rw j (counted (N .counts) (marks e) few)
+    the-records : records-from turns bs longest 0 M ≡ tonight e (N .totals .rows)
+    the-records = rw j (counted (N .totals .counts) (marks e) few)
 
     abbrev the-figures : Figures
     the-figures = record { answer = Answer.Sheet v; turns = turns; bytes = bs; longest = longest }
@@ -100,8 +100,8 @@ module _ (e : Re) (bytes lengths last cells room sheet : List ℕ) (k M : ℕ) (
     completed (to-marks x y d) z = absurd (omega arith)
     completed (to-last x y p q d) z = absurd (omega arith)
     completed (to-nothing x y p q d) z = λ pat l a table h.
-        let made : Sheeted pat bytes lengths last cells room table sheet 0 _ (replicate night-cells 0 ++ drop night-cells cells) room′ (tonight e (N .rows)) _
-        = sheeted (lent l) a (record { few-reports = x; adds-up = y }) (record { each-record = omega arith; each-last = omega arith }) d (N .night) in
+        let made : Sheeted pat bytes lengths last cells room table sheet 0 _ (replicate night-cells 0 ++ drop night-cells cells) room′ (tonight e (N .totals .rows)) _
+        = sheeted (lent l) a (record { few-reports = x; adds-up = y }) (record { each-record = omega arith; each-last = omega arith }) d (N .totals .night) in
         let w = wrote-written (rw the-records at W) (omega (arith, sheeted-small made .0)) in
-        let t : each (figured the-figures) table ≡ tonight e (N .rows) = anew the-figures table refl ∙ ap (records-from turns bs longest 0) (omega arith) ∙ the-records in
+        let t : each (figured the-figures) table ≡ tonight e (N .totals .rows) = anew the-figures table refl ∙ ap (records-from turns bs longest 0) (omega arith) ∙ the-records in
         rw (N .clear, t, w .0, w .1) made

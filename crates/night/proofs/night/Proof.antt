@@ -46,7 +46,7 @@ returns c = λ e g.
     let cleared = c .before .before in
     let passed = cleared .before .before .before .before .before .before in
     let p = passed .pass .ensures e (prepared passed .prepare .ensures e _ g) in
-    record { rows = p .rows; night = p .night; counts = p .counts; clear = cleared .clear .ensures ∙ ap (λ (l : List ℕ). replicate night-cells 0 ++ l) (p .past) }
+    record { totals = p .totals; clear = cleared .clear .ensures ∙ ap (λ (l : List ℕ). replicate night-cells 0 ++ l) (p .past) }
 
 pub night-spec : {M : Type 1} → statement M
 night-spec = tie.close (tie.spec prepare-requires pass-requires clear-requires same-length same-length-2 returns)

@@ -109,7 +109,11 @@ returns : tie.Need-returns Inv-loop μ-loop
 returns c = λ e p.
     let here = c .before .loop .inv in
     let g = here .1 e p in
-    record { rows = g .0 .rows; night = going-all (g .0) (omega (arith, here .0 .within)); counts = g .0 .counts; past = g .1; same-cells = here .0 .same-cells }
+    record {
+      totals = record { rows = g .0 .rows; night = going-all (g .0) (omega (arith, here .0 .within)); counts = g .0 .counts };
+      past = g .1;
+      same-cells = here .0 .same-cells;
+    }
 
 pub pass-spec : {M : Type 1} → statement M
 pass-spec =

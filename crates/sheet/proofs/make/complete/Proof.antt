@@ -54,7 +54,7 @@ each-number : (c : tie.After-night) → let asked = entry (on-from c .before .be
 each-number c =
     let o = on-from c .before .before in
     let asked = entry o .args in
-    night-lengths (c .night .ensures _ (entry o .pre .0 .given) .night) .0 ∙ length-reports (asked .lengths .now) (asked .reports .now)
+    night-lengths (c .night .ensures _ (entry o .pre .0 .given) .totals .night) .0 ∙ length-reports (asked .lengths .now) (asked .reports .now)
 
 array-share-prefix-numbers : tie.Need-array-share-prefix-numbers
 array-share-prefix-numbers c =
