@@ -8,7 +8,7 @@ use sets::set::Set;
 use walks::step::put;
 
 // Where a walk stands: how many bytes it has read, before which position, how many tokens are counted, whether another way was open.
-#[derive(Drop)]
+#[derive(Clone, Copy)]
 pub struct Stand {
     pub read: usize,
     pub position: usize,

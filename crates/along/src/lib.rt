@@ -1,4 +1,6 @@
 // The walk along a text, which writes the row of its first tree.
+#![tactic(auto)]
+
 pub mod glide;
 pub mod lay;
 pub mod links;

@@ -16,7 +16,7 @@ use walks::step::Step;
 pub const POOL: usize = 1016;
 
 // Where a way came to, and how many tokens of the pool are used after it.
-#[derive(Drop)]
+#[derive(Clone, Copy)]
 pub struct Gone {
     pub step: Step,
     pub used: usize,

@@ -13,7 +13,7 @@ use walks::enter::enter;
 use walks::step::{Step, also};
 
 // How many tokens a row has, whether another tree exists, and how many tokens of the pool are used.
-#[derive(Drop)]
+#[derive(Clone, Copy)]
 pub struct Walked {
     pub length: usize,
     pub other: bool,

@@ -57,13 +57,13 @@ bit_has w x p l = sym (bit_within w x p l)
 
 -- ---- `x | y`, `x & y`, `x & !y`
 
-pub bit_or : (w x y p : ℕ) → bit w (bit_or x y) p ≡ (bit w x p || bit w y p)
+pub bit_or_lem : (w x y p : ℕ) → bit w (bit_or x y) p ≡ (bit w x p || bit w y p)
 unfolding bit
-bit_or w x y p = ap (λ (b : Bool). ltb p w && b) (digit_or x y p) ∙ and-or_distrib_left (ltb p w) (digit x p) (digit y p)
+bit_or_lem w x y p = ap (λ (b : Bool). ltb p w && b) (digit_or x y p) ∙ and-or_distrib_left (ltb p w) (digit x p) (digit y p)
 
-pub bit_and : (w x y p : ℕ) → bit w (bit_and x y) p ≡ (bit w x p && bit w y p)
+pub bit_and_lem : (w x y p : ℕ) → bit w (bit_and x y) p ≡ (bit w x p && bit w y p)
 unfolding bit
-bit_and w x y p = ap (λ (b : Bool). ltb p w && b) (digit_and x y p) ∙ both (ltb p w) (digit x p) (digit y p)
+bit_and_lem w x y p = ap (λ (b : Bool). ltb p w && b) (digit_and x y p) ∙ both (ltb p w) (digit x p) (digit y p)
   where
     both : (t a b : Bool) → (t && (a && b)) ≡ ((t && a) && (t && b))
     both true a b = refl
@@ -71,7 +71,7 @@ bit_and w x y p = ap (λ (b : Bool). ltb p w && b) (digit_and x y p) ∙ both (l
 
 pub bit_minus : (w x y p : ℕ) → y < 2 ^ w → bit w (bit_and x ((2 ^ w - 1) - y)) p ≡ (bit w x p && not (bit w y p))
 unfolding bit
-bit_minus w x y p h = bit_and w x ((2 ^ w - 1) - y) p ∙ under (ltb p w) refl
+bit_minus w x y p h = bit_and_lem w x ((2 ^ w - 1) - y) p ∙ under (ltb p w) refl
   where
     under : (t : Bool) → ltb p w ≡ t → ((t && digit x p) && (t && digit ((2 ^ w - 1) - y) p)) ≡ ((t && digit x p) && not (t && digit y p))
     under true e = ap (λ (b : Bool). digit x p && b) (digit_not w y p h (ltb-true p w e))
@@ -90,7 +90,7 @@ bit_shl w p q l =
     within false e = and-false (ltb q w)
 
 pub bit_with : (w x p q : ℕ) → p < w → bit w (bit_or x (1 * 2 ^ p % 2 ^ w)) q ≡ (bit w x q || eqb q p)
-bit_with w x p q l = bit_or w x (1 * 2 ^ p % 2 ^ w) q ∙ ap (λ (b : Bool). bit w x q || b) (bit_shl w p q l)
+bit_with w x p q l = bit_or_lem w x (1 * 2 ^ p % 2 ^ w) q ∙ ap (λ (b : Bool). bit w x q || b) (bit_shl w p q l)
 
 pub bit_without : (w x p q : ℕ) → p < w → bit w (bit_and x ((2 ^ w - 1) - 1 * 2 ^ p % 2 ^ w)) q ≡ (bit w x q && not (eqb q p))
 bit_without w x p q l = bit_minus w x (1 * 2 ^ p % 2 ^ w) q (mod-lt _ (pow_pos w)) ∙ ap (λ (b : Bool). bit w x q && not b) (bit_shl w p q l)

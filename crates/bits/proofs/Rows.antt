@@ -12,7 +12,7 @@ use borrow.Author.Tests.{eqb-true, eqb-false, eq-eqb}
 use Rattle.bits.specs.Bit.{bit}
 use Rattle.bits.specs.Words.{in_words}
 use Rattle.bits.specs.Truth.{alike, both, and_both}
-use Rattle.bits.proofs.Bits.{bit_or, bit_shl}
+use Rattle.bits.proofs.Bits.{bit_or_lem, bit_shl}
 
 -- the digits of m join word i
 words_or : (w : ℕ) (l : List ℕ) (i m q : ℕ) → i < length l
@@ -26,7 +26,7 @@ words_or w l i m q h = here (eqb (q / w) i) refl
     here true e =
         let k : q / w ≡ i = eqb-true (q / w) i e in
         ap (λ (j : ℕ). bit w (get_or (set l i v) j 0) (q % w)) k ∙ ap (λ (x : ℕ). bit w x (q % w)) (get_or-set_same l i v 0 h)
-        ∙ bit_or w (get_or l i 0) m (q % w) ∙ ap (λ (j : ℕ). bit w (get_or l j 0) (q % w) || bit w m (q % w)) (sym k)
+        ∙ bit_or_lem w (get_or l i 0) m (q % w) ∙ ap (λ (j : ℕ). bit w (get_or l j 0) (q % w) || bit w m (q % w)) (sym k)
     here false e =
         ap (λ (x : ℕ). bit w x (q % w)) (get_or-set_other l i (q / w) v 0 (eqb-false (q / w) i e)) ∙ sym (or-false (in_words w l q))
 

@@ -1,1 +1,2 @@
 // Laws of binary digits, in specs/ and proofs/. There is no code here.
+#![tactic(auto)]

@@ -1,5 +1,7 @@
 // The calls with the figures of their answer told: each asks the call that it is named after, answers the number, and puts the other figures of
 // the answer at the front of `out`, as far as that is long.
+#![tactic(auto)]
+
 ghost use Rattle.std.specs.Prelude.{◌≡◌, [], ◌∷◌, set};
 ghost use Rattle.meaning.specs.Calls.{in_front, FirstTreeCall, ReadCall, TurnsCall};
 ghost use Rattle.sheet.specs.Answers.{number_of, value_of};

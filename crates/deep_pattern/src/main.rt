@@ -1,5 +1,7 @@
 // Reads the patterns that are deepest to read: 512 open parentheses, and 448 letters in 64 open groups. tests/stack says in how much stack it
 // runs.
+#![tactic(auto)]
+
 use libc::STDOUT_FILENO;
 use pattern::Reading;
 

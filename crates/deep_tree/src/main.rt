@@ -1,5 +1,7 @@
 // The longest text, 4,096 letters, with the pattern that is deepest to read, 448 letters in 64 open groups, and with the deepest to walk: 64
 // groups, each with a mark, and 256 parts in a row. The first line of each answer is printed; tests/stack says in how much stack it runs.
+#![tactic(auto)]
+
 use libc::STDOUT_FILENO;
 use tree::first_tree::first_tree;
 use tree::outcome::{Outcome, flag, number, value};

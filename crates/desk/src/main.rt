@@ -1,4 +1,6 @@
 // The desk: takes the first bytes of standard input, and writes what it answers.
+#![tactic(auto)]
+
 use lines::desk::{ROOM, TAKEN, desk_lines};
 
 fn main() {

@@ -1,4 +1,6 @@
 // The calls as C sees them, in one archive. Each hands on what it is given.
+#![tactic(auto)]
+
 ghost use Rattle.meaning.specs.Calls.{FirstTreeCall, ReadCall, TurnsCall, SheetCall};
 ghost use Rattle.meaning.specs.Promise.{Verdict};
 

@@ -18,7 +18,7 @@ least d (frame f l d₀ ∷ K) = least (max d₀ (suc d)) K
 
 least_deeper : {d d' : ℕ} (K : List Frame) → d ≤ d' → least d K ≤ least d' K
 least_deeper [] h = h
-least_deeper {d} {d'} (frame f l d₀ ∷ K) h = least_deeper K (omega arith)
+least_deeper {d = d} {d' = d'} (frame f l d₀ ∷ K) h = least_deeper {d = max d₀ (suc d)} {d' = max d₀ (suc d')} K (omega arith)
 
 least_open : (d : ℕ) (K : List Frame) → d + length K ≤ least d K
 least_open d [] = omega arith
@@ -112,7 +112,7 @@ module _ {n : ℕ} where
 
   run_over : {st : State} (s : List ℕ) → Over n st → Over n (run st s)
   run_over [] h = h
-  run_over (b ∷ s) h = run_over s (step_over b h)
+  run_over {st = st} (b ∷ s) h = run_over {st = step st b} s (step_over b h)
 
   whole_over : {e : Re} {d d' : ℕ} (f : Front) (l : List Re) → n ≤ d → whole (frame f l d) ≡ read e d' → n ≤ d'
   whole_over f [] h q = none_read q

@@ -204,7 +204,7 @@ step_sound b v_dead = v_dead
 
 run_sound : {st : State} {s : List ℕ} (t : List ℕ) → Inv st s → Inv (run st t) (s ++ t)
 run_sound {s = s} [] v = rw append-nil v
-run_sound {s = s} (b ∷ t) v = rw (append_assoc s (b ∷ []) t) at (run_sound t (step_sound b v))
+run_sound {st = st} {s = s} (b ∷ t) v = rw (append_assoc s (b ∷ []) t) at (run_sound {st = step st b} t (step_sound b v))
 
 pub start_sound : (s : List ℕ) → Inv (run start s) s
 start_sound s = run_sound s (v_ready (base (frame_of no_front no_items)))

@@ -1,5 +1,7 @@
 // The kinds of nodes of a read pattern, in the numbers of `meaning`: a node without parts is an eps or a pos, one with two parts a cat or an
 // alt; the others have one part and a mark.
+#![tactic(auto)]
+
 pub const EPS: u8 = 0;
 
 pub const POS: u8 = 1;

@@ -26,11 +26,14 @@ length_records rows m (suc k) = ap suc (length_records rows (suc m) k)
 
 module _ {e : Re} (h : ℕ) (i : h ≤ mark_limit) (j : marks e ≤ mark_limit) where
   pub report_few : {text room row room' : List ℕ} {n : ℕ} → Report e text room n row room' → bytes_read h row ≤ text_limit
-  report_few (Report.long_text l) = unfold bytes_read in omega arith
-  report_few (Report.judged l (Judged.no_tree x p)) = unfold bytes_read in omega arith
-  report_few (Report.judged l (small_room a g)) = unfold bytes_read in omega arith
-  report_few {room = room} (Report.judged l (Judged.tree {row = row} a g f)) =
-      rw (take-append_seam row (drop (length row) room)) (omega (arith, tree_few {h = h} {m = 0} (omega arith) (omega arith) a.tree))
+  report_few {text = text} {room = room} r = one r
+    where
+      one : {n : ℕ} {row room' : List ℕ} → Report e text room n row room' → bytes_read h row ≤ text_limit
+      one (Report.long_text l) = unfold bytes_read in omega arith
+      one (Report.judged l (Judged.no_tree x p)) = unfold bytes_read in omega arith
+      one (Report.judged l (small_room a g)) = unfold bytes_read in omega arith
+      one (Report.judged l (Judged.tree {row = row} a g f)) =
+          rw (take-append_seam row (drop (length row) room)) (omega (arith, tree_few {h = h} {m = 0} (omega arith) (omega arith) a.tree))
 
   pub night_few : {texts rows : List (List ℕ)} {room numbers room' : List ℕ} → Night e texts room numbers rows room'
       → (sum (map (turn_count h) rows) ≤ text_limit * length texts) × (sum (map (bytes_read h) rows) ≤ text_limit * length texts)

@@ -9,10 +9,13 @@ use Rattle.laws.specs.Promises.{judged_one}
 
 pub report_one : {e : Re} {text room row row' room₁ room₂ : List ℕ} {n n' : ℕ} → Report e text room n row room₁ → Report e text room n' row' room₂
     → (n ≡ n') × (row ≡ row') × (room₁ ≡ room₂)
-report_one (Report.long_text h) (Report.long_text h') = (refl, refl, refl)
-report_one (Report.long_text h) (Report.judged h' j) = absurd (omega arith)
-report_one (Report.judged h j) (Report.long_text h') = absurd (omega arith)
-report_one (Report.judged h j) (Report.judged h' j') = let z = judged_one j j' in (z.0, rw (z.0, z.1, z.3), z.3)
+report_one {e = e} {text = text} {room = room} r r' = one r r'
+  where
+    one : {n n' : ℕ} {row row' room₁ room₂ : List ℕ} → Report e text room n row room₁ → Report e text room n' row' room₂ → (n ≡ n') × (row ≡ row') × (room₁ ≡ room₂)
+    one (Report.long_text h) (Report.long_text h') = (refl, refl, refl)
+    one (Report.long_text h) (Report.judged h' j) = absurd (omega arith)
+    one (Report.judged h j) (Report.long_text h') = absurd (omega arith)
+    one (Report.judged h j) (Report.judged h' j') = let z = judged_one j j' in (z.0, rw (z.0, z.1, z.3), z.3)
 
 -- the numbers, the rows and the room at the end
 pub night_one : {e : Re} {texts rows rows' : List (List ℕ)} {room numbers numbers' room₁ room₂ : List ℕ} → Night e texts room numbers rows room₁ → Night e texts room numbers' rows' room₂
@@ -35,10 +38,13 @@ pub night_next : {e : Re} {texts rows : List (List ℕ)} {text row room room₁ 
 night_next t r = night_append t (then r no_more)
 
 pub report_number : {e : Re} {text room row room' : List ℕ} {n : ℕ} → Report e text room n row room' → n < 10
-report_number (Report.long_text h) = lit< tt
-report_number (Report.judged h (Judged.no_tree x l)) = lit< tt
-report_number (Report.judged h (small_room a g)) = lit< tt
-report_number (Report.judged h (Judged.tree a g f)) = lit< tt
+report_number {e = e} {text = text} {room = room} r = one r
+  where
+    one : {n : ℕ} {row room' : List ℕ} → Report e text room n row room' → n < 10
+    one (Report.long_text h) = lit< tt
+    one (Report.judged h (Judged.no_tree x l)) = lit< tt
+    one (Report.judged h (small_room a g)) = lit< tt
+    one (Report.judged h (Judged.tree a g f)) = lit< tt
 
 pub night_numbers : {e : Re} {texts rows : List (List ℕ)} {room numbers room' : List ℕ} → Night e texts room numbers rows room' → Each (λ n. n < 10) numbers
 night_numbers no_more = each_none

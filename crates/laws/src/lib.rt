@@ -1,1 +1,2 @@
 // Laws only: what follows from the definitions. See specs/.
+#![tactic(auto)]

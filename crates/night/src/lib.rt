@@ -1,4 +1,6 @@
 // The reports of a night, judged one after another by the tables of one pattern, and counted.
+#![tactic(auto)]
+
 ghost use Rattle.std.specs.Prelude.{[], ◌≤◌, length};
 ghost use Rattle.meaning.specs.Expression.{Re};
 ghost use Rattle.meaning.specs.Limits.{night_cells};
@@ -18,7 +20,7 @@ use tree::prepare::prepare;
 use tree::search::TEXT_LIMIT;
 
 // The number of a report, and how many tokens of the pool are used after it.
-#[derive(Drop)]
+#[derive(Clone, Copy)]
 pub struct Entry {
     pub number: u8,
     pub used: usize,

@@ -1,4 +1,6 @@
 // The passes over a text between the tables of a pattern and the work cells.
+#![tactic(auto)]
+
 pub mod backward;
 pub mod cells;
 pub mod masks;

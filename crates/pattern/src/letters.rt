@@ -9,28 +9,28 @@ use super::nodes;
 use sets::class::Class;
 
 // A place past what was read, or the place that is bad.
-#[derive(Drop)]
+#[derive(Clone, Copy)]
 pub enum Past {
     To(usize),
     Not(usize),
 }
 
 // A byte of a class and the place past it, or the place that is bad.
-#[derive(Drop)]
+#[derive(Clone, Copy)]
 pub enum One {
     Byte(u8, usize),
     None(usize),
 }
 
 // A class item, from its low to its high end, and the place past it; or the place that is bad.
-#[derive(Drop)]
+#[derive(Clone, Copy)]
 pub enum Span {
     From(u8, u8, usize),
     Bad(usize),
 }
 
 // What was read, and the class of it.
-#[derive(Drop)]
+#[derive(Clone, Copy)]
 pub struct Taken {
     pub past: Past,
     pub class: Class,

@@ -1,4 +1,6 @@
 // The pattern reader: which number answers a pattern, and the read pattern.
+#![tactic(auto)]
+
 ghost use Rattle.std.specs.Prelude.{◌≡◌, ◌+◌, ◌≤◌, length};
 ghost use Rattle.meaning.specs.Limits.{pattern_limit, nesting_limit};
 ghost use Rattle.meaning.specs.ReadPattern.{no_parts};
@@ -23,7 +25,7 @@ pub const POSITION_LIMIT: u16 = 64;
 
 pub const MARK_LIMIT: u16 = 64;
 
-#[derive(Drop)]
+#[derive(Clone, Copy)]
 pub enum Reading {
     Read,
     TooLong,
@@ -61,7 +63,7 @@ pub fn value(reading: Reading) -> usize
 }
 
 // Node i is of kind kind[i], with the number arg[i] beside it; the class of position q is class[4 * q] to class[4 * q + 3].
-#[derive(Drop)]
+#[derive(Clone, Copy)]
 pub struct ReadPattern {
     pub kind: [u8; 1024],
     pub arg: [u16; 1024],
@@ -71,7 +73,7 @@ pub struct ReadPattern {
     pub marks: usize,
 }
 
-#[derive(Drop)]
+#[derive(Clone, Copy)]
 pub struct Answer {
     pub reading: Reading,
     pub pattern: ReadPattern,
@@ -96,7 +98,7 @@ fn refused(reading: Reading) -> Answer
 }
 
 // What a pattern comes to beside its rows.
-#[derive(Drop)]
+#[derive(Clone, Copy)]
 pub struct Filled {
     pub reading: Reading,
     pub nodes: usize,

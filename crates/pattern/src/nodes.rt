@@ -5,7 +5,7 @@ ghost use Rattle.pattern.specs.Stores.{Became, Put, Keeps, Numberable, Numbers};
 use sets::class::Class;
 
 // The place in the pattern, and how many nodes, positions and marks there are. All are small, and a branch that goes on keeps one of these.
-#[derive(Drop)]
+#[derive(Clone, Copy)]
 pub struct Cursor {
     pub at: u16,
     pub used: u16,

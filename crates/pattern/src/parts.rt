@@ -9,7 +9,7 @@ use super::nodes::Cursor;
 use super::{letters, nodes};
 
 // What was read up to the cursor; or nothing, since there is a mistake or more groups are opened than may be.
-#[derive(Drop)]
+#[derive(Clone, Copy)]
 pub enum Got {
     Done(Cursor),
     Failed,

@@ -7,7 +7,7 @@ use super::letters::Past;
 use super::{letters, parts};
 
 // What stands before the place of the scan in the innermost list.
-#[derive(Drop)]
+#[derive(Clone, Copy)]
 pub enum Behind {
     Nothing,
     Bar,
@@ -16,7 +16,7 @@ pub enum Behind {
 }
 
 // How far the scan is: the place, how many groups are open there, and what stands before it in the innermost list.
-#[derive(Drop)]
+#[derive(Clone, Copy)]
 pub struct Reach {
     pub at: usize,
     pub groups: usize,
@@ -24,7 +24,7 @@ pub struct Reach {
 }
 
 // How far the scan is a turn later, or the place that is bad.
-#[derive(Drop)]
+#[derive(Clone, Copy)]
 pub enum Turn {
     On(Reach),
     Bad(usize),

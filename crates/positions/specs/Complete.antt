@@ -30,7 +30,7 @@ module _ {m p m' p' : ℕ} {x e : Re} {o' : Out} {s' r' : List ℕ}
   pub join : {j b : ℕ} {ρ : List ℕ} {o : Out} {s r : List ℕ} → At p x j b → Resume m p x j ρ o → Trace m p x o s r
       → Trace m' p' e (at j) (b ∷ (s ++ s')) (letter b ∷ (ρ ++ (r ++ (τ ++ r'))))
   join a w done = rw append_assoc at (step (read _ _ a) (leave _ _ w) tail)
-  join a w (step a' w' t) = rw append_assoc (step (read _ _ a) (stay _ _ _ w) (join a' w' t))
+  join {j = j} {b = b} {ρ = ρ} a w (step {q = q} {b = b'} {ρ = ρ'} a' w' t) = rw append_assoc (step (read _ _ a) (stay _ _ _ w) (join {j = q} {b = b'} {ρ = ρ'} a' w' t))
 
 cat_walk : {m p : ℕ} {x y : Re} {s₁ s₂ r₁ r₂ : List ℕ} → Walk m p x s₁ r₁ → Walk (m + marks x) (p + size x) y s₂ r₂ → Walk m p (cat x y) (s₁ ++ s₂) (r₁ ++ r₂)
 cat_walk (link e₁ done) (link e₂ t₂) = simp append-nil (simp append_assoc at (walk (e_cat_over e₁ e₂) (lift (λ j b a. a_cat_right a) (λ j ρ o w. r_cat_right w) t₂)))
@@ -78,6 +78,7 @@ star_plus_read (a_star a) = a_plus a
 more_walk : {m p : ℕ} {x : Re} {s₁ s₂ r₁ r₂ : List ℕ} → Some s₁ → Walk (suc m) p x s₁ r₁ → Some s₂ → Walk m p (star x) s₂ r₂ → Walk m p (plus x) (s₁ ++ s₂) (turn m r₁ ++ r₂)
 more_walk some (link e (step a w t)) some (link (e_star_in {ρ = ρ} e') t') = next_turn (λ j b a. a_plus a) (λ j q ρ w. r_plus_in w) ρ (λ j ρ w. r_plus_again w e') (e_plus_in e) (step a w t)
     (lift (λ j b a. star_plus_read a) (λ j ρ o w. star_plus w) t')
+more_walk some (link e (step a w t)) some (link e_star_over t') = elim t' [ ]
 
 pub complete : {m : ℕ} {e : Re} {s r : List ℕ} (p : ℕ) → Tree m e s r → Walk m p e s r
 complete p t_eps = walk e_eps done

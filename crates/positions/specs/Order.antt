@@ -13,6 +13,7 @@ before_differs (b_next i b) e = before_differs b (tail-eq_of_cons-eq e)
 pub before_back : {r r' : List ℕ} → Before r r' → Before r' r → ⊥
 before_back (b_here h) (b_here h') = omega arith
 before_back (b_here h) (b_next i b) = omega arith
+before_back (b_longer {t = t} {r = r}) b = elim b [ ]
 before_back (b_next i b) (b_here h) = omega arith
 before_back (b_next i b) (b_next i' b') = before_back b b'
 

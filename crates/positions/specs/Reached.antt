@@ -109,7 +109,7 @@ walk_reaches {e} {s} w (suc i) h =
 reached_walk : {e : Re} {text s r : List ℕ} {i q : ℕ} → Reached e text i q → i ≤ length text → Trace 0 0 e (at q) s r → (r' : List ℕ) × Walk 0 0 e (take i text ++ s) r'
 reached_walk {e} (r_first {q = q} h) l t = (_, walk (firsts_some 0 0 e q h).1 t)
 reached_walk {e} {text} {s} (r_next {i = i} {q = q} {q' = q'} x h k) l t =
-    let u = reached_walk x (omega arith) (step (reads_some 0 e q (get_or text i 0) h) (follows_some 0 0 e q q' k).1 t) in
+    let u = reached_walk {s = get_or text i 0 ∷ s} x (omega arith) (step (reads_some 0 e q (get_or text i 0) h) (follows_some 0 0 e q q' k).1 t) in
     (u.0, rw (take-suc text i 0 (omega arith), append_assoc (take i text) (get_or text i 0 ∷ []) s) u.1)
 
 -- what begins a text with a tree

@@ -76,7 +76,7 @@ unfolding marks
 marked_begun (k_cat k) (e_cat_in e) = begun_wider (omega arith) (omega arith) (marked_begun k e)
 marked_begun (k_cat k) (e_cat_over e e') = begun_append (begun_wider (omega arith) (omega arith) (marked_begun k e)) _
 marked_begun (k_alt k k') (e_left e) = begun_wider (omega arith) (omega arith) (marked_begun k e)
-marked_begun (k_alt k k') (e_right e) = begun_wider (omega arith) (omega arith) (marked_begun k' e)
+marked_begun {m = m} {p = p} (k_alt {x = x} {y = y} k k') (e_right e) = begun_wider (omega arith) (omega arith) (marked_begun {m = m + marks x} {p = p + size x} k' e)
 marked_begun k_branch (e_branch_in e) = begun_open _ _ _
 marked_begun k_branch (e_branch_over e) = begun_open _ _ _
 marked_begun k_plus (e_plus_in e) = begun_open _ _ _

@@ -114,8 +114,8 @@ pub reads_some : (p : ℕ) (e : Re) (j c : ℕ) → reads p e j c ≡ true → A
 unfolding reads
 reads_some p eps j c h = absurd (false≢true h)
 reads_some p (pos k) j c h = let i = both (eqb j p) (k c) h in rw (eqb-true j p i.0) (a_pos i.1)
-reads_some p (cat x y) j c h = elim (chosen (ltb j (p + size x)) (reads p x j c) _ h) [ inl i ↦ a_cat_left (reads_some p x j c i) | inr i ↦ a_cat_right (reads_some _ y j c i) ]
-reads_some p (alt x y) j c h = elim (chosen (ltb j (p + size x)) (reads p x j c) _ h) [ inl i ↦ a_left (reads_some p x j c i) | inr i ↦ a_right (reads_some _ y j c i) ]
+reads_some p (cat x y) j c h = elim (chosen (ltb j (p + size x)) (reads p x j c) _ h) [ inl i ↦ a_cat_left (reads_some p x j c i) | inr i ↦ a_cat_right (reads_some (p + size x) y j c i) ]
+reads_some p (alt x y) j c h = elim (chosen (ltb j (p + size x)) (reads p x j c) _ h) [ inl i ↦ a_left (reads_some p x j c i) | inr i ↦ a_right (reads_some (p + size x) y j c i) ]
 reads_some p (branch x) j c h = a_branch (reads_some p x j c h)
 reads_some p (star x) j c h = a_star (reads_some p x j c h)
 reads_some p (plus x) j c h = a_plus (reads_some p x j c h)

@@ -110,10 +110,13 @@ read_judged : {t : Text} {u : List ℕ} (c : ℕ) → Judged t u → Judged (rea
 read_judged {t = text r v} c (equal i) = equal (ap (λ (l : List ℕ). letter c ∷ l) i)
 read_judged {t = text r v} c (after i l) = after i (b_next refl l)
 
+then_judged : {q c : ℕ} {e : Re} {s : List ℕ} (t : Text) → Foremost (Chain 0 0 e (Resume 0 0 e q) s) t → (u : List ℕ) → Reads q c e s u → Judged (read c t) u
+then_judged (text r v) F u (then_on y) = read_judged _ (F.least _ y)
+
 read_foremost : {q c : ℕ} {e : Re} {s : List ℕ} → At 0 e q c → (t : Text) → Foremost (Chain 0 0 e (Resume 0 0 e q) s) t → Foremost (Trace 0 0 e (at q) (c ∷ s)) (read c t)
 read_foremost {c = c} a (text r v) F = record {
   row = read_to a F.row;
-  least = λ u x. elim (read_of x) [ then_on y ↦ read_judged c (F.least _ y) ];
+  least = λ u x. then_judged (text r v) F u (read_of x);
   seconds = λ i. elim (F.seconds i) [ second x l ↦ second (read_to a x) (b_next refl l) ];
 }
 

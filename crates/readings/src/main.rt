@@ -1,4 +1,6 @@
 // The readings of the rules that no theorem states: each is one line below, and prints what is asked and what is answered.
+#![tactic(auto)]
+
 mod answered;
 mod asked;
 mod nights;

@@ -1,4 +1,6 @@
 // A TREE line read back into tokens. The line is read twice: a bad one, or one too long for the room, leaves the room as it was.
+#![tactic(auto)]
+
 ghost use Rattle.std.specs.Prelude.{◌≡◌, ◌<◌, length, set};
 ghost use Rattle.rows.specs.Rows.{Line, RowOf};
 ghost use Rattle.rows.specs.Front.{NumberIn, base, Rest, FrontOf, Finds};
@@ -6,7 +8,7 @@ ghost use Rattle.rows.specs.Front.{NumberIn, base, Rest, FrontOf, Finds};
 use lines::parts::is_word;
 use lines::print::token;
 
-#[derive(Drop)]
+#[derive(Clone, Copy)]
 pub enum Row {
     Tokens(usize),
     SmallRoom(usize),
@@ -14,7 +16,7 @@ pub enum Row {
 }
 
 // With what the rest of a line begins: a token and how many bytes it has, or the end.
-#[derive(Drop)]
+#[derive(Clone, Copy)]
 enum Front {
     Token(u16, usize),
     End,
@@ -22,7 +24,7 @@ enum Front {
 }
 
 // How many tokens a line has, if it is one.
-#[derive(Drop)]
+#[derive(Clone, Copy)]
 enum Found {
     Count(usize),
     Nothing,

@@ -3,7 +3,7 @@ ghost use Rattle.std.specs.Prelude.{◌≡◌, true, false, ◌&&◌, ◌||◌, 
 ghost use Rattle.sets.specs.Classes.{among};
 
 // Byte b is the bit b % 64 of word b / 64.
-#[derive(Drop)]
+#[derive(Clone, Copy)]
 pub struct Class {
     pub words: [u64; 4],
 }

@@ -3,7 +3,7 @@ ghost use Rattle.std.specs.Prelude.{◌≡◌, true, false, ◌&&◌, ◌||◌, 
 ghost use Rattle.sets.specs.Members.{has, limit, vacant, meets, Alike, Least, rows, row, Stored};
 
 // Position p is the bit p.
-#[derive(Drop)]
+#[derive(Clone, Copy)]
 pub struct Set {
     pub bits: u64,
 }

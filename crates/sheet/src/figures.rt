@@ -3,7 +3,7 @@ ghost use Rattle.std.specs.Prelude.{◌≡◌};
 ghost use Rattle.sheet.specs.Answers.{number_of, value_of};
 
 // One for each line of the table of answers: the place of the mistake, the length of the sheet.
-#[derive(Drop)]
+#[derive(Clone, Copy)]
 pub enum Answer {
     LongPattern,
     LittleLent,
@@ -17,7 +17,7 @@ pub enum Answer {
     Sheet(usize),
 }
 
-#[derive(Drop)]
+#[derive(Clone, Copy)]
 pub struct Figures {
     pub answer: Answer,
     pub turns: [u64; 64],

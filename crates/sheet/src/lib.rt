@@ -1,4 +1,6 @@
 // The night sheet: its text, the table of records, and the call.
+#![tactic(auto)]
+
 ghost use Rattle.meaning.specs.Sheet.{Sheeted};
 ghost use Rattle.sheet.specs.Answers.{number_of, value_of};
 

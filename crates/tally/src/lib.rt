@@ -1,4 +1,6 @@
 // A row of tokens counted in the figures of its marks. The figures of mark m + 1 stand at place m.
+#![tactic(auto)]
+
 ghost use Rattle.std.specs.Prelude.{◌≡◌, true, ◌+◌, ◌-◌, ◌≤◌, ◌<◌, length, get_or};
 ghost use Rattle.tally.specs.Tally.{Holds, Tallied};
 ghost use Rattle.tally.specs.Along.{counts, Added, Takes, Opens, Opened, Closes, Underway, Moved, Ends, Ran};
@@ -10,7 +12,7 @@ const CLOSING: usize = 128;
 const NEVER: u64 = 18446744073709551615;
 
 // A place of a row, and how many byte tokens stand behind it.
-#[derive(Drop)]
+#[derive(Clone, Copy)]
 struct Place {
     at: usize,
     seen: u64,

@@ -18,7 +18,7 @@ use sets::set::Set;
 use walks::look::open_to;
 
 // What is found, and how many tokens of the pool are used after it.
-#[derive(Drop)]
+#[derive(Clone, Copy)]
 pub struct Found {
     pub outcome: Outcome,
     pub used: usize,

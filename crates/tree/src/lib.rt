@@ -1,4 +1,6 @@
 // The first tree of a text.
+#![tactic(auto)]
+
 pub mod first_tree;
 pub mod judge;
 pub mod outcome;

@@ -3,7 +3,7 @@ ghost use Rattle.std.specs.Prelude.{◌≡◌};
 ghost use Rattle.tree.specs.Outcome.{number_of, value_of, flag_of};
 
 // One for each line of the table of answers: the place, the length, the length and whether another tree exists.
-#[derive(Drop)]
+#[derive(Clone, Copy)]
 pub enum Outcome {
     LongPattern,
     LongText,

@@ -28,7 +28,7 @@ pub fn room_for(marks: usize, n: usize) -> usize
 }
 
 // Work cells and tokens.
-#[derive(Drop)]
+#[derive(Clone, Copy)]
 pub struct Lending {
     pub cells: usize,
     pub tokens: usize,

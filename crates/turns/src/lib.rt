@@ -1,4 +1,6 @@
 // The turn count: how many openings of a mark in a row of tokens have a byte token before the mark's next closing.
+#![tactic(auto)]
+
 ghost use Rattle.std.specs.Prelude.{◌≡◌, ◌≤◌, ◌<◌};
 ghost use Rattle.meaning.specs.Promise.{Counted};
 ghost use Rattle.turns.specs.Numbers.{number_of, count_of};
@@ -10,7 +12,7 @@ pub const MARK_LIMIT: usize = 64;
 // A mark is closed by its number and this.
 const CLOSING: u16 = 128;
 
-#[derive(Drop)]
+#[derive(Clone, Copy)]
 pub enum TurnCount {
     Count(usize),
     NoMark,
@@ -37,7 +39,7 @@ pub fn count(t: TurnCount) -> usize
 
 // What stands behind a place of a row: whether the mark is closed there, whether an opening at the place is counted, and how many openings
 // behind it are.
-#[derive(Drop)]
+#[derive(Clone, Copy)]
 struct Behind {
     closed: bool,
     counted: bool,

@@ -1,4 +1,6 @@
 // The scheduler's verdict.
+#![tactic(auto)]
+
 ghost use Rattle.meaning.specs.Promise.{Verdict};
 ghost use Rattle.verdict.specs.Suffice.{Suffice};
 

