@@ -61,9 +61,9 @@ fn keep(
     u: Step,
     at: usize,
 ) -> Step
-    requires s_bound { (s < 256) × ((from ≤ cursor u) × (at + (cursor u - from) < 2 ^ 64)) }
-    requires keys_value { (rows keys.old ≡ 256) × (length links.old ≡ 1024) }
-    requires u_bound { (cursor u ≤ pool_limit) × (position_of u < limit) }
+    requires place { (s < 256) × ((from ≤ cursor u) × (at + (cursor u - from) < 2 ^ 64)) }
+    requires sizes { (rows keys.old ≡ 256) × (length links.old ≡ 1024) }
+    requires in_pool { (cursor u ≤ pool_limit) × (position_of u < limit) }
     ensures { Keeps s goal from at u result keys.old keys.new links.old links.new }
 {
     match u {
@@ -118,7 +118,7 @@ pub fn onward<'a>(
     requires charted { Charted kind.now arg.now null.now first.now upto.now follow.now root }
     requires stock { Stock kind.now arg.now root keys.old links.old pool.old used }
     ensures went { Went kind.now arg.now root q goal last tree.old tree.new at result.step }
-    ensures stock_2 { Stock kind.now arg.now root keys.new links.new pool.new result.used }
+    ensures stocked { Stock kind.now arg.now root keys.new links.new pool.new result.used }
 {
     if last {
         let step = resume(kind, arg, null, first, upto, root, q, goal, last, tree, at);

@@ -62,7 +62,7 @@ fn advance<'a>(
     requires charted { Charted kind.now arg.now null.now first.now upto.now follow.now root }
     requires stock { Stock kind.now arg.now root keys.old links.old pool.old used }
     ensures advanced { Advanced kind.now arg.now root text.now cells.now tree.old tree.new s result.step }
-    ensures stock_2 { Stock kind.now arg.now root keys.new links.new pool.new result.used }
+    ensures stocked { Stock kind.now arg.now root keys.new links.new pool.new result.used }
 {
     let i = s.read;
     let next = i + 1;
@@ -131,7 +131,7 @@ pub fn walk<'a>(
     requires stock { Stock kind.now arg.now root keys.old links.old pool.old used }
     ensures writes { (e : Re) → Walkable e kind.now arg.now root text.now cells.now
         → Writes e text.now tree.old tree.new result }
-    ensures stock_2 { Stock kind.now arg.now root keys.new links.new pool.new result.used }
+    ensures stocked { Stock kind.now arg.now root keys.new links.new pool.new result.used }
 {
     let n = text.len();
     let goal = Set::load(cells, 0);

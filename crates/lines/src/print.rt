@@ -81,8 +81,8 @@ pub fn token(out: &mut [u8], at: usize, t: u16) -> usize
 
 // The first n tokens of a row.
 pub fn tokens(out: &mut [u8], at: usize, row: &[u16], n: usize) -> usize
-    requires n_in_bounds { n ≤ length row.now }
-    requires n_bound { at + 22 * n ≤ far }
+    requires within { n ≤ length row.now }
+    requires fits { at + 22 * n ≤ far }
     ensures wrote { Wrote out.old at (tokens (take n row.now)) out.new result }
     ensures upper_bound { result ≤ at + 7 * n }
 {
@@ -110,8 +110,8 @@ pub fn answer_line(out: &mut [u8], at: usize, n: usize, v: usize, f: usize) -> u
 
 // Line two: the first n tokens of a row.
 pub fn tree_line(out: &mut [u8], at: usize, row: &[u16], n: usize) -> usize
-    requires n_in_bounds { n ≤ length row.now }
-    requires n_bound { at + 22 * n + 5 ≤ far }
+    requires within { n ≤ length row.now }
+    requires fits { at + 22 * n + 5 ≤ far }
     ensures wrote { Wrote out.old at (tree_line (take n row.now)) out.new result }
     ensures upper_bound { result ≤ at + 7 * n + 5 }
 {
@@ -122,8 +122,8 @@ pub fn tree_line(out: &mut [u8], at: usize, row: &[u16], n: usize) -> usize
 
 // Both lines, the second only for 0: number, value, flag, and the room with the row at its front.
 pub fn answer(out: &mut [u8], n: usize, v: usize, f: usize, room: &[u16]) -> usize
-    requires room_len_bound { length room.now ≤ desk_tokens }
-    requires v_in_bounds { n ≡ 0 → v ≤ length room.now }
+    requires few_tokens { length room.now ≤ desk_tokens }
+    requires within { n ≡ 0 → v ≤ length room.now }
     ensures wrote { Wrote out.old 0 (desk_lines n v f (take v room.now)) out.new result }
     ensures upper_bound { result ≤ longest }
 {

@@ -53,15 +53,15 @@ fn report<'a>(
     longest: &mut [u64; 64],
 ) -> Entry
     requires prepares { Prepares kind.now arg.now null.now first.now upto.now mask.now follow.now pre.now root marks last }
-    requires night_cells_in_bounds_1 { night_cells ≤ length cells.old }
-    requires night_cells_in_bounds_2 { Spacious turns.old bytes.old }
+    requires cells_lent { night_cells ≤ length cells.old }
+    requires spacious { Spacious turns.old bytes.old }
     requires memo { Memo mask.now pre.now nexts.old befores.old }
     requires stock { Stock kind.now arg.now root keys.old links.old pool.old used }
     ensures reported { (e : Re) → Prepared e kind.now arg.now null.now first.now upto.now mask.now follow.now pre.now root marks last
         → Reported e text.now cells.old cells.new tree.old tree.new
         turns.old turns.new bytes.old bytes.new longest.old longest.new result.number }
-    ensures memo_2 { Memo mask.now pre.now nexts.new befores.new }
-    ensures stock_2 { Stock kind.now arg.now root keys.new links.new pool.new result.used }
+    ensures remembered { Memo mask.now pre.now nexts.new befores.new }
+    ensures stocked { Stock kind.now arg.now root keys.new links.new pool.new result.used }
 {
     if TEXT_LIMIT < text.len() {
         return Entry { number: 2, used };
@@ -108,8 +108,8 @@ fn pass<'a>(
     longest: &mut [u64; 64],
 )
     requires prepares { Prepares kind.now arg.now null.now first.now upto.now mask.now follow.now pre.now root marks last }
-    requires lengths_right_1 { LengthsRight reports.now lengths.now }
-    requires lengths_right_2 { night_cells ≤ length cells.old }
+    requires lengths_right { LengthsRight reports.now lengths.now }
+    requires cells_lent { night_cells ≤ length cells.old }
     requires zero { Zero numbers.old turns.old bytes.old longest.old }
     ensures { (e : Re) → Prepared e kind.now arg.now null.now first.now upto.now mask.now follow.now pre.now root marks last
         → Passed e reports.now lengths.now cells.old cells.new tree.old tree.new
@@ -175,8 +175,8 @@ pub fn night<'a>(
     longest: &mut [u64; 64],
 )
     requires gives { Gives kind.now arg.now class.now root positions marks }
-    requires lengths_right_1 { LengthsRight reports.now lengths.now }
-    requires lengths_right_2 { night_cells ≤ length cells.old }
+    requires lengths_right { LengthsRight reports.now lengths.now }
+    requires cells_lent { night_cells ≤ length cells.old }
     requires zero { Zero numbers.old turns.old bytes.old longest.old }
     ensures { (e : Re) → Given e kind.now arg.now class.now root positions marks
         → Nightly e reports.now lengths.now cells.old cells.new tree.old tree.new

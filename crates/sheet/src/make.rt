@@ -46,7 +46,7 @@ fn complete<'a>(
     sheet: &mut [u8],
 ) -> Figures
     requires gives { Gives kind.now arg.now class.now root positions marks }
-    requires night_cells_in_bounds { (night_cells ≤ length cells.old) × (sheet_bytes ≤ length sheet.old) }
+    requires lent { (night_cells ≤ length cells.old) × (sheet_bytes ≤ length sheet.old) }
     ensures { (e : Re) → Given e kind.now arg.now class.now root positions marks
         → Completes e reports.now lengths.now last.now records cells.old tree.old sheet.old
         result cells.new tree.new sheet.new }

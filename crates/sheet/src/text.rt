@@ -52,8 +52,8 @@ fn each_mark(
     bytes: &[u64; 64],
     longest: &[u64; 64],
 ) -> usize
-    requires marks_le_mark_limit { marks ≤ mark_limit }
-    requires marks_bound { at + 63 * marks ≤ far }
+    requires few_marks { marks ≤ mark_limit }
+    requires fits { at + 63 * marks ≤ far }
     ensures wrote { Wrote out.old at (mark_lines (records_from turns.now bytes.now longest.now 0 marks))
         out.new result }
     ensures upper_bound { result ≤ at + 63 * marks }
@@ -86,8 +86,8 @@ fn change(out: &mut [u8], at: usize, tonight: u64, last: u64) -> usize
 
 // That of each mark that last night has a number for, whatever the other figures of the marks are.
 fn each_change(out: &mut [u8], at: usize, turns: &[u64; 64], last: &[u64]) -> usize
-    requires last_len_bound { length last.now ≤ mark_limit }
-    requires last_bound { at + 22 * length last.now ≤ far }
+    requires few_last { length last.now ≤ mark_limit }
+    requires fits { at + 22 * length last.now ≤ far }
     ensures { (bytes longest : List ℕ)
         → Wrote out.old at (change_lines (records_from turns.now bytes longest 0 (length last.now)) last.now)
         out.new result }
@@ -113,9 +113,9 @@ pub fn text(
     last: &[u64],
     sheet: &mut [u8],
 ) -> usize
-    requires marks_le_mark_limit { marks ≤ mark_limit }
-    requires last_len { length last.now ≡ marks }
-    requires numbers_len_bound { length numbers.now ≤ report_limit }
+    requires few_marks { marks ≤ mark_limit }
+    requires each_last { length last.now ≡ marks }
+    requires few_numbers { length numbers.now ≤ report_limit }
     ensures { Wrote sheet.old 0
         (sheet_text numbers.now (records_from turns.now bytes.now longest.now 0 marks) last.now)
         sheet.new result }

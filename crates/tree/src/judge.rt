@@ -44,7 +44,7 @@ fn measure<'a>(
     requires charted { Charted kind.now arg.now null.now first.now upto.now follow.now root }
     requires stock { Stock kind.now arg.now root keys.old links.old pool.old used }
     ensures measures { (e : Re) → Walkable e kind.now arg.now root text.now cells.now → Measures e text.now result }
-    ensures stock_2 { Stock kind.now arg.now root keys.new links.new pool.new result.used }
+    ensures stocked { Stock kind.now arg.now root keys.new links.new pool.new result.used }
 {
     let mut none = [0u16; 1];
     walk(
@@ -74,11 +74,11 @@ fn judge<'a>(
 ) -> Found
     requires judges { Judges kind.now arg.now first.now mask.now follow.now root marks text.now cells.now }
     requires charted { Charted kind.now arg.now null.now first.now upto.now follow.now root }
-    requires bound { (256 ≤ rows mask.now) × (limit ≤ rows follow.now) }
+    requires tables { (256 ≤ rows mask.now) × (limit ≤ rows follow.now) }
     requires stock { Stock kind.now arg.now root keys.old links.old pool.old used }
     ensures sought_as { (e : Re) → Judgeable e kind.now arg.now first.now mask.now follow.now root marks text.now cells.now
         → SoughtAs e text.now tree.old tree.new result.outcome }
-    ensures stock_2 { Stock kind.now arg.now root keys.new links.new pool.new result.used }
+    ensures stocked { Stock kind.now arg.now root keys.new links.new pool.new result.used }
 {
     let n = text.len();
     if open_to(null, first, root, Set::load(cells, 0), n == 0) {
@@ -142,13 +142,13 @@ pub fn seek<'a>(
     tree: &mut [u16],
 ) -> Found
     requires prepares { Prepares kind.now arg.now null.now first.now upto.now mask.now follow.now pre.now root marks last }
-    requires text_len_bound { (length text.now ≤ text_limit) × (length text.now < length cells.old) }
+    requires lent { (length text.now ≤ text_limit) × (length text.now < length cells.old) }
     requires memo { Memo mask.now pre.now nexts.old befores.old }
     requires stock { Stock kind.now arg.now root keys.old links.old pool.old used }
     ensures seeks { (e : Re) → Prepared e kind.now arg.now null.now first.now upto.now mask.now follow.now pre.now root marks last
         → Seeks e text.now cells.old cells.new tree.old tree.new result.outcome }
-    ensures memo_2 { Memo mask.now pre.now nexts.new befores.new }
-    ensures stock_2 { Stock kind.now arg.now root keys.new links.new pool.new result.used }
+    ensures remembered { Memo mask.now pre.now nexts.new befores.new }
+    ensures stocked { Stock kind.now arg.now root keys.new links.new pool.new result.used }
 {
     backward(text, mask, pre, last, nexts, befores, cells);
     judge(

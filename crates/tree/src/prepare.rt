@@ -24,8 +24,8 @@ pub fn prepare<'a>(
     follow: &mut [u64; 64],
     pre: &mut [u64; 64],
 ) -> Set
-    requires root_1 { Root kind.now arg.now root }
-    requires root_2 { positions ≤ limit }
+    requires rooted { Root kind.now arg.now root }
+    requires few_positions { positions ≤ limit }
     requires blank { Blank null.old first.old upto.old mask.old follow.old pre.old }
     ensures { (e : Re) (marks : ℕ) → Given e kind.now arg.now class.now root positions marks
         → Prepared e kind.now arg.now null.new first.new upto.new mask.new follow.new pre.new root marks result }

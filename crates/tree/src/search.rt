@@ -28,7 +28,7 @@ fn find<'a>(
     tree: &mut [u16],
 ) -> Outcome
     requires gives { Gives kind.now arg.now class.now root positions marks }
-    requires text_len_bound { (length text.now ≤ text_limit) × (length text.now < length cells.old) }
+    requires lent { (length text.now ≤ text_limit) × (length text.now < length cells.old) }
     ensures { (e : Re) → Given e kind.now arg.now class.now root positions marks
         → Finds e text.now cells.old cells.new tree.old tree.new result }
 {
