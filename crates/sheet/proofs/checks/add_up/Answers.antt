@@ -1,0 +1,29 @@
+-- `sheet::checks::add_up` meets its contract. The loop's invariant: what is left stands to the lengths from i on as n to all of them. Assumes nothing.
+use mathlib.Core.Path.{◌≡◌}
+use Prim.Native.Nat.{◌+◌, ◌-◌, ◌≤◌}
+use native.Mathlib.Omega.{arith}
+use lib.ListN.{length, drop}
+use Rattle.meaning.specs.Night.{sum}
+use Rattle.laws.specs.Sums.{sum_from, sum_end}
+use Rattle.sheet.proofs.CheckLaws.{adds_not, adds_as}
+use Rattle.sheet.proofs.checks.add_up.Goals as goal
+
+pub loop-i-init : goal.loop-i-init
+loop-i-init c = (omega arith, omega arith)
+
+pub returns-then-left-length : goal.returns-then-left-length
+returns-then-left-length c =
+    let l = c in
+    let lengths = l.args.lengths.now in
+    adds_not (sum lengths) l.args.n (λ z. omega (arith, z, l.loop-i.invariant.1, sum_from lengths l.loop-i.i (omega arith)))
+
+pub loop-i-preserved : goal.loop-i-preserved
+loop-i-preserved c =
+    let l = c in
+    (omega arith, omega (arith, l.loop-i.invariant.1, sum_from l.args.lengths.now l.loop-i.i (omega arith)))
+
+pub returns : goal.returns
+returns c =
+    let l = c in
+    let lengths = l.args.lengths.now in
+    adds_as (sum lengths) l.args.n l.loop-i.left (omega (arith, l.loop-i.invariant.1, sum_end lengths l.loop-i.i (omega arith)))

@@ -1,0 +1,22 @@
+-- `sheet::checks::greatest` meets its contract. The loop's invariant: the greatest so far, and of the row from i on, is that of the row. Assumes nothing.
+use mathlib.Core.Path.{◌≡◌}
+use Prim.Native.Nat.{◌-◌, ◌≤◌, max}
+use native.Mathlib.Omega.{arith}
+use lib.ListN.{length, drop}
+use borrow.Author.Rules.{rules}
+use Rattle.meaning.specs.Night.{greatest}
+use Rattle.laws.specs.Sums.{greatest_from, greatest_end}
+use Rattle.sheet.proofs.checks.greatest.Goals as goal
+
+pub loop-i-init : goal.loop-i-init
+loop-i-init c = (omega arith, omega arith)
+
+pub loop-i-preserved : goal.loop-i-preserved
+loop-i-preserved c =
+    let l = c in
+    (omega arith, omega (arith, c.greater-most.ensures, l.loop-i.invariant.1, greatest_from l.args.row.now l.loop-i.i (omega arith)))
+
+pub returns : goal.returns
+returns c =
+    let l = c in
+    omega (arith, l.loop-i.invariant.1, greatest_end l.args.row.now l.loop-i.i (omega arith))

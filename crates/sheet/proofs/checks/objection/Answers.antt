@@ -1,0 +1,29 @@
+-- `sheet::checks::objection` meets its contract. Assumes nothing.
+use Rattle.std.proofs.Common.{◌≡◌, ℕ, Bool, true, eqb, sym, ◌∙◌, inl, inr, arith}
+use borrow.Author.Rules.{rules}
+use borrow.Author.Tests.{eqb-true, eqb-false, not-true, not-false}
+use Rattle.meaning.specs.Night.{sum}
+use Rattle.sheet.specs.Checks.{to_lengths, to_marks, to_last, to_nothing}
+use Rattle.sheet.proofs.checks.objection.Goals as goal
+
+-- the lengths add up
+added : {s n : ℕ} {b : Bool} → b ≡ eqb s n → b ≡ true → s ≡ n
+added e t = eqb-true _ _ (sym e ∙ t)
+
+pub returns-then-lengths-gt-REPORT_LIMIT : goal.returns-then-lengths-gt-REPORT_LIMIT
+returns-then-lengths-gt-REPORT_LIMIT c = to_lengths (inl (omega arith))
+
+pub returns-then-not-add_up : goal.returns-then-not-add_up
+returns-then-not-add_up c = to_lengths (inr (eqb-false _ _ (sym c.add_up.ensures ∙ c.if-not-add_up.true)))
+
+pub returns-then-records-marks : goal.returns-then-records-marks
+returns-then-records-marks c = to_marks (omega arith) (added c.add_up.ensures c.if-not-add_up.false) (inl (λ z. omega arith))
+
+pub returns-then-last-marks : goal.returns-then-last-marks
+returns-then-last-marks c = to_marks (omega arith) (added c.add_up.ensures c.if-not-add_up.false) (inr (λ z. omega arith))
+
+pub returns-then-greatest-gt-LAST_LIMIT : goal.returns-then-greatest-gt-LAST_LIMIT
+returns-then-greatest-gt-LAST_LIMIT c = to_last (omega arith) (added c.add_up.ensures c.if-not-add_up.false) (omega arith) (omega arith) (omega arith)
+
+pub returns : goal.returns
+returns c = to_nothing (omega arith) (added c.add_up.ensures c.if-not-add_up.false) (omega arith) (omega arith) (omega arith)
