@@ -49,10 +49,10 @@ pub fn backward(
     sets: &mut [u64; 256],
     cells: &mut [u64],
 )
-    requires bound { (256 ≤ rows mask.now) × (limit ≤ rows pre.now) × (length text.now < rows cells.old) }
+    requires enough_rows { (256 ≤ rows mask.now) × (limit ≤ rows pre.now) × (length text.now < rows cells.old) }
     requires memo { Memo mask.now pre.now keys.old sets.old }
-    ensures by_index { (follow : List ℕ) → Preceding follow pre.now → Backed mask.now follow ends text.now cells.old cells.new }
-    ensures memo_2 { Memo mask.now pre.now keys.new sets.new }
+    ensures backed { (follow : List ℕ) → Preceding follow pre.now → Backed mask.now follow ends text.now cells.old cells.new }
+    ensures memo_stays { Memo mask.now pre.now keys.new sets.new }
 {
     let n = text.len();
     Set::empty().store(cells, n);

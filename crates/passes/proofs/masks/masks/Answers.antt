@@ -1,0 +1,27 @@
+-- `passes::masks::masks` meets its contract. The loop's invariant: the positions joined the rows of the bytes in the words before word i.
+use mathlib.Core.Path.{◌≡◌}
+use Prim.Native.Nat.{◌*◌}
+use native.Mathlib.Omega.{arith}
+use Rattle.sets.specs.Members.{rows}
+use Rattle.passes.proofs.Upto.{brought_none, brought_more, brought_all}
+use Rattle.passes.proofs.masks.masks.Goals as goal
+
+pub loop-i-init : goal.loop-i-init
+loop-i-init c = (omega arith, brought_none _ _)
+
+pub loop-i-preserved : goal.loop-i-preserved
+loop-i-preserved c =
+    let noted = c in
+    let turn = noted.loop-i in
+    (omega arith, brought_more _ turn.i turn.invariant.1 noted.note.ensures)
+
+pub shape_of-mask : goal.shape_of-mask
+unfolding rows
+shape_of-mask c = c.loop-i.invariant.1.same_rows
+
+pub returns : goal.returns
+returns c =
+    let last = c in
+    let positions = last.args.positions in
+    let end : last.loop-i.i ≡ 4 * positions = omega arith in
+    brought_all _ positions (rw end at last.loop-i.invariant.1)

@@ -1,0 +1,10 @@
+-- `passes::masks::masks` meets its contract. The loop's invariant: the positions joined the rows of the bytes in the words before word i.
+use Prim.Native.Nat.{◌*◌, ◌-◌, ◌≤◌}
+use Rattle.passes.proofs.Upto.{Brought}
+use Rattle.passes.proofs.masks.masks.Given as goal
+
+abbrev pub invariant-loop-i : goal.invariant-loop-i
+invariant-loop-i l = (l.i ≤ 4 * l.positions) × Brought l.class l.i l.initial.mask l.mask
+
+abbrev pub decreases-loop-i : goal.decreases-loop-i
+decreases-loop-i l = 4 * l.positions - l.i
