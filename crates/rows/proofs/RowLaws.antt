@@ -97,9 +97,9 @@ rests_one : {s : List ℕ} (row row' : List ℕ) → Rest s row → Rest s row' 
 rests_one [] [] r r' = refl
 rests_one [] (t ∷ row') r r' = absurd (omega (arith, rest_long r', ap length (rest_end r)))
 rests_one (t ∷ row) [] r r' = absurd (omega (arith, rest_long r, ap length (rest_end r')))
-rests_one (t ∷ row) (t' ∷ row') r r' =
+rests_one {s = s} (t ∷ row) (t' ∷ row') r r' =
     let e : t ≡ t' = sym (rest_token r) ∙ rest_token r' in
-    let e' : row ≡ row' = rests_one row row' (rest_behind r) (rw (sym e) at (rest_behind r')) in
+    let e' : row ≡ row' = rests_one {s = drop {A = ℕ} (length (token t)) s} row row' (rest_behind r) (rw (sym e) at (rest_behind r')) in
     rw (e, e')
 
 pub line_one : {line : List ℕ} {row row' : List ℕ} → Line line row → Line line row' → row ≡ row'

@@ -1,0 +1,14 @@
+-- `lines::print::word` meets its contract. Assumes nothing.
+use Prim.Native.Nat.{◌≤◌, ◌-◌}
+use native.Mathlib.Omega.{arith}
+use lib.ListN.{length, take, length-take}
+use borrow.Author.Rules.{rules}
+use Rattle.lines.specs.Wrote.{Wrote}
+use Rattle.lines.proofs.WroteLaws.{wrote_none, word_more, word_all, wrote_kept}
+use Rattle.lines.proofs.print.word.Given as goal
+
+abbrev pub invariant-loop-i : goal.invariant-loop-i
+invariant-loop-i l = (l.i ≤ length l.w) × Wrote l.initial.out l.at (take l.i l.w) l.out l.to
+
+abbrev pub decreases-loop-i : goal.decreases-loop-i
+decreases-loop-i l = length l.w - l.i

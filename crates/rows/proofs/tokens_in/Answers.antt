@@ -1,0 +1,46 @@
+-- `rows::tokens_in` meets its contract. Assumes nothing.
+use Rattle.std.proofs.Common.{◌≡◌, ℕ, List, take}
+use Prim.Native.Nat.{◌+◌, ◌-◌, ◌≤◌}
+use Rattle.rows.specs.declared.Front.{Front}
+use native.Mathlib.Omega.{arith}
+use lib.ListN.{length, drop, length-drop}
+use borrow.Author.Rules.{rules}
+use Rattle.rows.specs.Front.{FrontOf, Begins}
+use Rattle.rows.proofs.FrontLaws.{from_on}
+use Rattle.rows.proofs.RowLaws.{Past, past_none, past_more, past_end, past_kept}
+use Rattle.rows.proofs.tokens_in.Goals as goal
+
+-- with what the bytes that are left begin
+seen : (s : List ℕ) (i : ℕ) {f f' : Front} → FrontOf (take (length s - i) (drop i s)) f → f ≡ f' → FrontOf (drop i s) f'
+seen s i o e = rw e at (rw (from_on s i) at o)
+
+-- a token is read within the bytes that are left
+moves : (s : List ℕ) (i t k : ℕ) → i ≤ length s → Begins (drop i s) t k → (1 ≤ k) × (i + k ≤ length s)
+moves s i t k w b = omega (arith, b.some, b.within, length-drop i s)
+
+pub loop-t-init : goal.loop-t-init
+loop-t-init c = past_none _ _
+
+pub shape_of-room-in-End : goal.shape_of-room-in-End
+shape_of-room-in-End c = past_kept _ _ _ _ _ c.loop-t.invariant
+
+pub returns-in-End : goal.returns-in-End
+returns-in-End c = past_end _ _ _ _ _ c.loop-t.invariant (seen c.args.s.now c.loop-t.i c.front_of.ensures c.in-End.is)
+
+pub shape_of-room-in-Neither : goal.shape_of-room-in-Neither
+shape_of-room-in-Neither c = past_kept _ _ _ _ _ c.loop-t.invariant
+
+pub returns-in-Neither : goal.returns-in-Neither
+returns-in-Neither c = c.loop-t.invariant.only (seen c.args.s.now c.loop-t.i c.front_of.ensures c.in-Neither.is)
+
+pub overflow_add-n : goal.overflow_add-n
+overflow_add-n c = omega (arith, moves c.args.s.now c.loop-t.i c.in-Token.t c.in-Token.k c.loop-t.invariant.within (seen c.args.s.now c.loop-t.i c.front_of.ensures c.in-Token.is))
+
+pub overflow_add-i : goal.overflow_add-i
+overflow_add-i c = omega (arith, moves c.args.s.now c.loop-t.i c.in-Token.t c.in-Token.k c.loop-t.invariant.within (seen c.args.s.now c.loop-t.i c.front_of.ensures c.in-Token.is))
+
+pub loop-t-smaller : goal.loop-t-smaller
+loop-t-smaller c = omega (arith, moves c.args.s.now c.loop-t.i c.in-Token.t c.in-Token.k c.loop-t.invariant.within (seen c.args.s.now c.loop-t.i c.front_of.ensures c.in-Token.is))
+
+pub loop-t-preserved : goal.loop-t-preserved
+loop-t-preserved c = past_more _ _ _ _ _ c.loop-t.invariant _ _ _ (seen c.args.s.now c.loop-t.i c.front_of.ensures c.in-Token.is) c.keep.ensures
