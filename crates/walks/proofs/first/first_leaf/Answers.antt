@@ -1,7 +1,6 @@
 -- `walks::first::first_leaf` meets its contract. Assumes nothing.
 use borrow.Author.Tests.{eq-eqb, ne_eqb}
 use Rattle.walks.specs.Tables.{leaf_first}
-use borrow.Author.Rules.{rules}
 use Rattle.walks.proofs.first.first_leaf.Goals as goal
 
 -- `walks::first::first_leaf` meets its contract. Assumes nothing.

@@ -1,7 +1,6 @@
 -- `walks::first::first_two` meets its contract. Assumes nothing.
 use borrow.Author.Tests.{eq-eqb, ne_eqb}
 use Rattle.walks.specs.Tables.{two_first}
-use borrow.Author.Rules.{rules}
 use Rattle.walks.proofs.first.first_two.Goals as goal
 
 pub returns-then-k-eq-ALT : goal.returns-then-k-eq-ALT

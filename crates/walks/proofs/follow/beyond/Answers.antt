@@ -3,7 +3,6 @@ use mathlib.Core.Path.{sym}
 use mathlib.Core.Bool.{or-false}
 use borrow.Author.Tests.{eq-eqb, ne_eqb}
 use Rattle.walks.specs.Follow.{next_of}
-use borrow.Author.Rules.{rules}
 use Rattle.walks.proofs.follow.beyond.Goals as goal
 
 pub returns-then-null-j-eq0 : goal.returns-then-null-j-eq0

@@ -1,6 +1,5 @@
 -- `walks::look::goes` meets its contract. Assumes nothing.
 use mathlib.Core.Path.{◌∙◌}
-use borrow.Author.Rules.{rules}
 use Rattle.walks.proofs.look.goes.Goals as goal
 
 pub returns : goal.returns

@@ -1,5 +1,4 @@
 -- `walks::look::goes_or` meets its contract. Assumes nothing.
-use borrow.Author.Rules.{rules}
 use Rattle.walks.proofs.look.goes_or.Goals as goal
 
 pub returns-then-goes : goal.returns-then-goes

@@ -1,7 +1,6 @@
 -- `walks::look::open_to` meets its contract. Assumes nothing.
 use borrow.Author.Tests.{eq-eqb, ne_eqb}
 use Rattle.walks.specs.Enter.{open_to}
-use borrow.Author.Rules.{rules}
 use Rattle.walks.proofs.look.open_to.Goals as goal
 
 pub returns-then-goes : goal.returns-then-goes

@@ -1,6 +1,6 @@
 -- `holder`: the node of a turn has the position, in its right part where there is a turn, so the node number falls.
-use Rattle.std.proofs.Common.{◌<◌, arith}
-use Rattle.walks.specs.Resume.{Placed, Rightward, Spine, from_here, further}
+use Rattle.std.proofs.Common.{arith}
+use Rattle.walks.specs.Resume.{from_here, further}
 use Rattle.walks.proofs.Parts.{above}
 use Rattle.walks.proofs.Spines.{spine_placed}
 use Rattle.walks.proofs.resume.holder.Goals as goal

@@ -1,6 +1,5 @@
 -- `walks::step::also` meets its contract. Assumes nothing.
 use Rattle.walks.proofs.Written.{noted_passed, noted_stopped, or_yes, or_no}
-use borrow.Author.Rules.{rules}
 use Rattle.walks.proofs.step.also.Goals as goal
 
 pub returns-then-other : goal.returns-then-other

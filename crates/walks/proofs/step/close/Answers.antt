@@ -3,7 +3,6 @@ use mathlib.Core.Path.{ap}
 use native.Mathlib.Omega.{arith}
 use Rattle.walks.specs.Steps.{cursor}
 use Rattle.walks.proofs.Written.{after_stopped, after_passed, wrote_token}
-use borrow.Author.Rules.{rules}
 use Rattle.walks.proofs.step.close.Goals as goal
 
 pub put-requires : goal.put-requires

@@ -1,7 +1,6 @@
 -- `walks::step::put` meets its contract. Assumes nothing.
 use mathlib.Core.Path.{refl, sym}
 use lib.Seq.{set_out}
-use borrow.Author.Rules.{rules}
 use Rattle.walks.proofs.step.put.Goals as goal
 
 pub returns-else-at-tree : goal.returns-else-at-tree
