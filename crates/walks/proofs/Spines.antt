@@ -2,14 +2,14 @@
 use mathlib.Core.Path.{◌≡◌, refl}
 use mathlib.Core.Bool.{Bool}
 use mathlib.Core.List.{List}
-use Prim.Native.Nat.{ℕ, ◌-◌, ◌≤◌, ◌<◌}
+use Prim.Native.Nat.{ℕ, ◌≤◌, ◌<◌}
 use native.Mathlib.Omega.{arith}
 use native.Mathlib.Decide.{dec_le}
 use lib.ListN.{get_or}
 use Rattle.sets.specs.declared.set.Set.{Set}
 use Rattle.walks.specs.declared.step.Step.{Step}
 use Rattle.walks.specs.Tables.{Known, number, EndAt}
-use Rattle.walks.specs.Resume.{Placed, ResumesAt, Rightward, Spine, from_here, further}
+use Rattle.walks.specs.Resume.{Placed, ResumesAt, Rightward, Spine, Holder, from_here, further}
 use Rattle.walks.proofs.Resuming.{end_read, placed_below, placed_right, resumes_right}
 
 -- where counting starts does not matter to a place
@@ -43,3 +43,7 @@ module _ {ks gs us : List ℕ} {i j : ℕ} where
     spine_resumes from_here E = E
     spine_resumes {goal = goal} {pass} (further S x) E =
         spine_resumes S (resumes_right goal pass (left_ends S (spine_placed S) x) x.two x.pair refl x.past E)
+
+-- where the way to right parts ends where it began, position j is in the left part, node l
+pub stays_left : {ks gs us : List ℕ} {i n j l : ℕ} → Holder ks gs us i j n → i ≤ n → l ≡ get_or gs i 0 → 2 ≤ get_or ks i 0 → get_or ks i 0 ≤ 3 → j < get_or us l 0
+stays_left h a q k k' = left_end (omega (arith, a, spine_below h.spine)) q k k' h.last

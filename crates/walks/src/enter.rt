@@ -9,7 +9,7 @@ use crate::step::{Step, also, close, put};
 use sets::set::Set;
 
 // Enters node i, on the way to a position of the goal or, if `pass`, past the node, and writes the marks on the way from `at` on.
-#[cycle(enter_enter_pair_on_turn)]
+#[cycle(way_in)]
 pub fn enter<'a>(
     kind: &'a [u8; 1024],
     arg: &'a [u16; 1024],
@@ -46,7 +46,7 @@ pub fn enter<'a>(
 }
 
 // The same of a node with two parts.
-#[cycle(enter_enter_pair_on_turn)]
+#[cycle(way_in)]
 fn enter_pair<'a>(
     kind: &'a [u8; 1024],
     arg: &'a [u16; 1024],
@@ -60,7 +60,7 @@ fn enter_pair<'a>(
 ) -> Step
     requires ready { Ready kind.now arg.now i at }
     requires scanned { Scanned kind.now arg.now null.now first.now i }
-    requires bound { (2 ≤ get_or kind.now i 0) × (get_or kind.now i 0 ≤ 3) }
+    requires pair { (2 ≤ get_or kind.now i 0) × (get_or kind.now i 0 ≤ 3) }
     ensures { EntersAt kind.now arg.now i goal pass tree.old tree.new at result }
 {
     let k = kind[i];
@@ -81,7 +81,7 @@ fn enter_pair<'a>(
 }
 
 // Enters node i after the step s, where that passed.
-#[cycle(enter_enter_pair_on_turn)]
+#[cycle(way_in)]
 pub fn on<'a>(
     kind: &'a [u8; 1024],
     arg: &'a [u16; 1024],
@@ -107,7 +107,7 @@ pub fn on<'a>(
 }
 
 // A turn over the part at node i, whose mark is this, where it leads to the goal.
-#[cycle(enter_enter_pair_on_turn)]
+#[cycle(way_in)]
 pub fn turn<'a>(
     kind: &'a [u8; 1024],
     arg: &'a [u16; 1024],

@@ -63,9 +63,9 @@ pub fn opens_first<'a>(
 )
     requires held { Held kind.now arg.now i }
     requires known { Known number (NullAt kind.now arg.now) null.now i }
-    requires first_value { (rows first.old ≡ 1024) × (length upto.old ≡ 1024) }
-    ensures walked { Walked rows row (FirstAt kind.now arg.now) kind.now arg.now i first.old first.new }
-    ensures walked_2 { Walked length number (EndAt kind.now arg.now) kind.now arg.now i upto.old upto.new }
+    requires sized { (rows first.old ≡ 1024) × (length upto.old ≡ 1024) }
+    ensures walked_first { Walked rows row (FirstAt kind.now arg.now) kind.now arg.now i first.old first.new }
+    ensures walked_upto { Walked length number (EndAt kind.now arg.now) kind.now arg.now i upto.old upto.new }
 {
     let k = kind[i];
     let a = arg[i];

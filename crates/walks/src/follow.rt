@@ -58,7 +58,7 @@ pub fn may_follow<'a>(
 ) -> Set
     requires held { Held kind.now arg.now i }
     requires scanned { Scanned kind.now arg.now null.now first.now i }
-    requires follow_value { rows follow.old ≡ limit }
+    requires sized { rows follow.old ≡ limit }
     ensures { FollowsAt kind.now arg.now i after end follow.old follow.new ends result }
 {
     let k = kind[i];

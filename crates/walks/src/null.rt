@@ -46,7 +46,7 @@ fn null_two(k: u8, left: u8, right: u8) -> u8
 // Fills `null` for the nodes of the part at node i: 1 where a node may be passed over no text, else 0.
 pub fn may_be_empty<'a>(kind: &'a [u8; 1024], arg: &'a [u16; 1024], null: &mut [u8; 1024], i: usize)
     requires held { Held kind.now arg.now i }
-    requires null_len { length null.old ≡ 1024 }
+    requires sized { length null.old ≡ 1024 }
     ensures { Walked length number (NullAt kind.now arg.now) kind.now arg.now i null.old null.new }
 {
     let k = kind[i];

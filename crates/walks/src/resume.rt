@@ -74,7 +74,7 @@ fn holder(kind: &[u8; 1024], arg: &[u16; 1024], upto: &[u16; 1024], i: usize, j:
 
 // Goes on in node i from its position j, which was just read, on the way to a position of the goal or, if `pass`, past the node, and
 // writes the marks on the way from `at` on.
-#[cycle(resume_resume_pair)]
+#[cycle(way_on)]
 pub fn resume<'a>(
     kind: &'a [u8; 1024],
     arg: &'a [u16; 1024],
@@ -112,7 +112,7 @@ pub fn resume<'a>(
 }
 
 // The same of a node with two parts.
-#[cycle(resume_resume_pair)]
+#[cycle(way_on)]
 fn resume_pair<'a>(
     kind: &'a [u8; 1024],
     arg: &'a [u16; 1024],
@@ -129,7 +129,7 @@ fn resume_pair<'a>(
     requires placed { Placed kind.now arg.now i j at }
     requires scanned { Scanned kind.now arg.now null.now first.now i }
     requires known { Known number (EndAt kind.now arg.now) upto.now i }
-    requires bound { (2 ≤ get_or kind.now i 0) × (get_or kind.now i 0 ≤ 3) }
+    requires pair { (2 ≤ get_or kind.now i 0) × (get_or kind.now i 0 ≤ 3) }
     ensures { ResumesAt kind.now arg.now i j goal pass tree.old tree.new at result }
 {
     let n = holder(kind, arg, upto, i, j);

@@ -19,7 +19,7 @@ pub fn tables<'a>(
     root: usize,
 ) -> Set
     requires root { Root kind.now arg.now root }
-    requires null_len { (length null.old ≡ 1024) × ((rows first.old ≡ 1024) × ((length upto.old ≡ 1024) × (rows follow.old ≡ limit))) }
+    requires sized { (length null.old ≡ 1024) × ((rows first.old ≡ 1024) × ((length upto.old ≡ 1024) × (rows follow.old ≡ limit))) }
     ensures tabled { Tabled kind.now arg.now null.new first.new upto.new follow.new root result }
     ensures spared { Spared kind.now arg.now root
         null.old null.new first.old first.new upto.old upto.new follow.old follow.new }
