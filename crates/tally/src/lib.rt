@@ -56,9 +56,9 @@ fn wraps(row: &[u16], at: usize, mark: usize) -> bool
 
 // Whether such a turn ends at the place.
 fn ends(row: &[u16], at: usize, mark: usize) -> bool
-    requires fact_1 { at ≤ length row.now }
-    requires fact_2 { 1 ≤ mark }
-    requires fact_3 { mark ≤ 64 }
+    requires in_row { at ≤ length row.now }
+    requires from_one { 1 ≤ mark }
+    requires up_to_last { mark ≤ 64 }
     ensures { result ≡ true → Ends row.now at mark }
 {
     if at < 3 {
@@ -74,9 +74,9 @@ fn ends(row: &[u16], at: usize, mark: usize) -> bool
 
 // All such turns that stand there behind each other.
 fn run(row: &[u16], mark: usize, from: usize, behind: u64) -> Place
-    requires fact_1 { from + behind ≤ length row.now }
-    requires fact_2 { 1 ≤ mark }
-    requires fact_3 { mark ≤ 64 }
+    requires in_row { from + behind ≤ length row.now }
+    requires from_one { 1 ≤ mark }
+    requires up_to_last { mark ≤ 64 }
     ensures { Ran row.now mark from behind result.at result.seen }
 {
     let mut at = from;
@@ -99,8 +99,8 @@ fn opening(
     bytes: &mut [u64],
     longest: &mut [u64],
 )
-    requires fact_1 { m < length closed.now }
-    requires fact_2 { Opens m (seen - get_or closed.now m 0) (counts turns.old bytes.old longest.old) }
+    requires in_closed { m < length closed.now }
+    requires opens { Opens m (seen - get_or closed.now m 0) (counts turns.old bytes.old longest.old) }
     ensures { Opened m (seen - get_or closed.now m 0) (counts turns.old bytes.old longest.old) (counts turns.new bytes.new longest.new) }
 {
     let behind = closed[m];
@@ -121,8 +121,8 @@ fn closing(
     bytes: &mut [u64],
     longest: &mut [u64],
 ) -> Place
-    requires fact_1 { Underway row.now at seen closed.old (counts turns.old bytes.old longest.old) }
-    requires fact_2 { Closes row.now at mark }
+    requires underway { Underway row.now at seen closed.old (counts turns.old bytes.old longest.old) }
+    requires closes { Closes row.now at mark }
     ensures { Moved row.now at seen closed.old (counts turns.old bytes.old longest.old) result.at result.seen closed.new (counts turns.new bytes.new longest.new) }
 {
     let m = mark - 1;
@@ -150,8 +150,8 @@ fn step(
     bytes: &mut [u64],
     longest: &mut [u64],
 ) -> Place
-    requires fact_1 { Underway row.now at seen closed.old (counts turns.old bytes.old longest.old) }
-    requires fact_2 { 0 < at }
+    requires underway { Underway row.now at seen closed.old (counts turns.old bytes.old longest.old) }
+    requires not_first { 0 < at }
     ensures { Moved row.now at seen closed.old (counts turns.old bytes.old longest.old) result.at result.seen closed.new (counts turns.new bytes.new longest.new) }
 {
     let mut next = Place {

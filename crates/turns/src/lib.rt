@@ -48,8 +48,8 @@ struct Behind {
 
 // What stands behind the place before, where this token is.
 fn lengthened(behind: Behind, token: u16, mark: u16) -> Behind
-    requires fact_1 { mark ≤ 64 }
-    requires fact_2 { behind.turns < 9223372036854775808 }
+    requires small_mark { mark ≤ 64 }
+    requires few_turns { behind.turns < 9223372036854775808 }
     ensures { Lengthens mark token behind result }
 {
     let mut next = behind;

@@ -1,0 +1,25 @@
+-- `tally::run` meets its contract. The loop's invariant: only turns of one byte stand between the place and where it began, three tokens each. Assumes nothing.
+use native.Mathlib.Omega.{arith}
+use Rattle.tally.proofs.Shorts.{ran_none, ran_more}
+use Rattle.tally.proofs.run.Goals as goal
+
+pub loop-at-init : goal.loop-at-init
+loop-at-init c = ran_none _ _ _ _
+
+pub ends-requires : goal.ends-requires
+ends-requires c = omega (arith, c.loop-at.invariant.no_further)
+
+pub overflow_sub-at : goal.overflow_sub-at
+overflow_sub-at c = (c.ends.ensures c.loop-at-test.true).three
+
+pub loop-at-smaller : goal.loop-at-smaller
+loop-at-smaller c = omega (arith, (c.ends.ensures c.loop-at-test.true).three)
+
+pub loop-at-preserved : goal.loop-at-preserved
+loop-at-preserved c = ran_more c.loop-at.invariant (c.ends.ensures c.loop-at-test.true)
+
+pub overflow_sub-turns : goal.overflow_sub-turns
+overflow_sub-turns c = c.loop-at.invariant.no_further
+
+pub returns : goal.returns
+returns c = c.loop-at.invariant
