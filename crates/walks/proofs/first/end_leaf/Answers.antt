@@ -4,7 +4,6 @@ use borrow.Author.Tests.{eq-eqb, ne_eqb}
 use Rattle.walks.specs.Tables.{leaf_end}
 use Rattle.walks.proofs.first.end_leaf.Goals as goal
 
--- `walks::first::end_leaf` meets its contract. Assumes nothing.
 pub overflow_add-result : goal.overflow_add-result
 overflow_add-result c = omega (arith, c.requires c.if-k-eq-POS.true)
 

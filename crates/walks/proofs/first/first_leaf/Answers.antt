@@ -3,10 +3,6 @@ use borrow.Author.Tests.{eq-eqb, ne_eqb}
 use Rattle.walks.specs.Tables.{leaf_first}
 use Rattle.walks.proofs.first.first_leaf.Goals as goal
 
--- `walks::first::first_leaf` meets its contract. Assumes nothing.
-pub of-requires : goal.of-requires
-of-requires c = c.requires c.if-k-eq-POS.true
-
 pub returns-then-k-eq-POS : goal.returns-then-k-eq-POS
 unfolding leaf_first
 returns-then-k-eq-POS c = λ q. rw (eq-eqb _ 1 c.if-k-eq-POS.true) (c.of.ensures q)

@@ -16,11 +16,7 @@ returns-then-k-eq-CAT c = λ q. rw (eq-eqb _ 2 c.if-k-eq-CAT.true, ne_eqb _ 0 c.
 pub returns-then-turns_again : goal.returns-then-turns_again
 unfolding next_of
 returns-then-turns_again c =
-    let loops = c in
-    let asked = loops in
-    let not-cat = asked in
-    let loaded = not-cat in
-    λ q. rw (ne_eqb _ 2 not-cat.if-k-eq-CAT.false, ← asked.turns_again.ensures, loops.if-turns_again.true, ← loaded.load-opens.ensures) (c.union-turns.ensures q)
+    λ q. rw (ne_eqb _ 2 c.if-k-eq-CAT.false, ← c.turns_again.ensures, c.if-turns_again.true, ← c.load-opens.ensures) (c.union-turns.ensures q)
 
 pub returns : goal.returns
 unfolding next_of

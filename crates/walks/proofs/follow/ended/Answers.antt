@@ -3,7 +3,6 @@ use borrow.Author.Tests.{eq-eqb, ne_eqb}
 use Rattle.walks.specs.Follow.{last_of}
 use Rattle.walks.proofs.follow.ended.Goals as goal
 
--- `walks::follow::ended` meets its contract. Assumes nothing.
 pub returns-then-k-eq-ALT : goal.returns-then-k-eq-ALT
 unfolding last_of
 returns-then-k-eq-ALT c = rw (eq-eqb _ 3 c.if-k-eq-ALT.true)

@@ -3,7 +3,6 @@ use borrow.Author.Tests.{eq-eqb, ne_eqb}
 use Rattle.walks.specs.Tables.{one_null}
 use Rattle.walks.proofs.null.null_one.Goals as goal
 
--- `walks::null::null_one` meets its contract. Assumes nothing.
 pub returns-then-k-eq-STAR : goal.returns-then-k-eq-STAR
 unfolding one_null
 returns-then-k-eq-STAR c = rw (eq-eqb _ 5 c.if-k-eq-STAR.true)

@@ -3,7 +3,6 @@ use borrow.Author.Tests.{eq-eqb, ne_eqb}
 use Rattle.walks.specs.Tables.{two_null}
 use Rattle.walks.proofs.null.null_two.Goals as goal
 
--- `walks::null::null_two` meets its contract. Assumes nothing.
 pub returns-then-left-eq0 : goal.returns-then-left-eq0
 unfolding two_null
 returns-then-left-eq0 c = rw (eq-eqb _ 2 c.if-k-eq-CAT.true, eq-eqb _ 0 c.if-left-eq0.true)

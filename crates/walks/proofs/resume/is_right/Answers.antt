@@ -3,21 +3,6 @@ use Rattle.std.proofs.Common.{arith}
 use Rattle.walks.proofs.Resuming.{placed_below}
 use Rattle.walks.proofs.resume.is_right.Goals as goal
 
-pub bounds-kind-n : goal.bounds-kind-n
-bounds-kind-n c = c.requires.within
-
-pub returns-then-k-lt-CAT : goal.returns-then-k-lt-CAT
-returns-then-k-lt-CAT c = λ x. omega (arith, x.two, c.if-k-lt-CAT.true)
-
-pub returns-then-k-gt-ALT : goal.returns-then-k-gt-ALT
-returns-then-k-gt-ALT c = λ x. omega (arith, x.pair, c.if-k-gt-ALT.true)
-
-pub offset_bounds-arg-n : goal.offset_bounds-arg-n
-offset_bounds-arg-n c = omega (arith, c.requires.within)
-
-pub bounds-arg-n : goal.bounds-arg-n
-bounds-arg-n c = c.requires.within
-
 pub offset_bounds-upto-left : goal.offset_bounds-upto-left
 offset_bounds-upto-left c =
     omega (arith, (placed_below c.requires c.if-k-lt-CAT.false c.if-k-gt-ALT.false c.wide-left.ensures).1)
