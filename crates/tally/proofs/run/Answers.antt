@@ -1,4 +1,4 @@
--- `tally::run` meets its contract. The loop's invariant: only turns of one byte stand between the place and where it began, three tokens each. Assumes nothing.
+-- `tally::run` meets its contract. Assumes nothing.
 use native.Mathlib.Omega.{arith}
 use Rattle.tally.proofs.Shorts.{ran_none, ran_more}
 use Rattle.tally.proofs.run.Goals as goal

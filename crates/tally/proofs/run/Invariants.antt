@@ -1,4 +1,5 @@
--- `tally::run` meets its contract. The loop's invariant: only turns of one byte stand between the place and where it began, three tokens each. Assumes nothing.
+-- `tally::run`, the loop's invariant: only turns of one byte stand between the place and where it began, three tokens each. Assumes
+-- nothing.
 use Prim.Native.Nat.{◌+◌, ◌-◌, ◌/◌}
 use Rattle.tally.specs.Along.{Ran}
 use Rattle.tally.proofs.run.Given as goal

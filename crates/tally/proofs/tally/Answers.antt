@@ -1,4 +1,4 @@
--- `tally::tally` meets its contract. The loop's invariant: the tokens from `at` on are counted. Assumes nothing.
+-- `tally::tally` meets its contract. Assumes nothing.
 use mathlib.Core.Path.{◌≡◌, refl}
 use native.Mathlib.Omega.{arith}
 use borrow.Author.Rules.{rules}

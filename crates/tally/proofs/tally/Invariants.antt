@@ -1,4 +1,4 @@
--- `tally::tally` meets its contract. The loop's invariant: the tokens from `at` on are counted. Assumes nothing.
+-- `tally::tally`, the loop's invariant: the tokens from `at` on are counted. Assumes nothing.
 use mathlib.Core.Path.{◌≡◌}
 use Prim.Native.Nat.{◌≤◌}
 use lib.ListN.{length, drop}

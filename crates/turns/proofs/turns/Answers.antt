@@ -1,4 +1,4 @@
--- `turns::turns` meets its contract. The loop's invariant: the tokens from i on stand behind. Assumes nothing.
+-- `turns::turns` meets its contract. Assumes nothing.
 use mathlib.Core.Logic.{inl, inr}
 use native.Mathlib.Omega.{arith}
 use Rattle.meaning.specs.Promise.{no_mark}

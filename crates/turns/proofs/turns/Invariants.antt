@@ -1,4 +1,4 @@
--- `turns::turns` meets its contract. The loop's invariant: the tokens from i on stand behind. Assumes nothing.
+-- `turns::turns`, the loop's invariant: the tokens from i on stand behind. Assumes nothing.
 use Prim.Native.Nat.{◌≤◌}
 use lib.ListN.{length, drop}
 use Rattle.turns.specs.Behind.{Stands}

@@ -1,4 +1,4 @@
--- `passes::backward::backward` meets its contract. The loop's invariant: the cells from i on are done, whatever positions may be the last,
+-- `passes::backward::backward` meets its contract. Assumes nothing.
 use mathlib.Core.Path.{◌≡◌, refl, ◌∙◌}
 use Prim.Native.Nat.{◌≤◌, ◌<◌}
 use native.Mathlib.Omega.{arith}

@@ -1,4 +1,5 @@
--- `passes::backward::backward` meets its contract. The loop's invariant: the cells from i on are done, whatever positions may be the last,
+-- `passes::backward::backward`, the loop's invariant: the cells from i on are done, whatever positions may be the last, and the memo is
+-- right. Assumes nothing.
 use mathlib.Core.Path.{◌≡◌}
 use mathlib.Core.List.{List}
 use Prim.Native.Nat.{ℕ, ◌<◌}

@@ -1,4 +1,4 @@
--- `passes::cells::clear` meets its contract. The loop's invariant: the first i cells are zero, the others as they came. Assumes nothing.
+-- `passes::cells::clear` meets its contract. Assumes nothing.
 use mathlib.Core.Path.{◌≡◌, refl, ap, ◌∙◌}
 use Prim.Native.Nat.{◌+◌}
 use native.Mathlib.Omega.{arith}

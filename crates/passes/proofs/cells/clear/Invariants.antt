@@ -1,4 +1,4 @@
--- `passes::cells::clear` meets its contract. The loop's invariant: the first i cells are zero, the others as they came. Assumes nothing.
+-- `passes::cells::clear`, the loop's invariant: the first i cells are zero, the others as they came. Assumes nothing.
 use mathlib.Core.Path.{◌≡◌}
 use mathlib.Core.List.{◌++◌}
 use Prim.Native.Nat.{◌+◌, ◌-◌, ◌≤◌}

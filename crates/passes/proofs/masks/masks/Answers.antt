@@ -1,4 +1,4 @@
--- `passes::masks::masks` meets its contract. The loop's invariant: the positions joined the rows of the bytes in the words before word i.
+-- `passes::masks::masks` meets its contract. Assumes nothing.
 use mathlib.Core.Path.{◌≡◌}
 use Prim.Native.Nat.{◌*◌}
 use native.Mathlib.Omega.{arith}

@@ -1,4 +1,4 @@
--- `passes::masks::masks` meets its contract. The loop's invariant: the positions joined the rows of the bytes in the words before word i.
+-- `passes::masks::masks`, the loop's invariant: the positions joined the rows of the bytes in the words before word i. Assumes nothing.
 use Prim.Native.Nat.{◌*◌, ◌-◌, ◌≤◌}
 use Rattle.passes.proofs.Upto.{Brought}
 use Rattle.passes.proofs.masks.masks.Given as goal

@@ -1,4 +1,4 @@
--- `passes::masks::note` meets its contract. The loop's invariant: what the table has, and what the digits that are left bring, is the
+-- `passes::masks::note` meets its contract. Assumes nothing.
 use mathlib.Core.Path.{◌≡◌, refl, sym, ◌∙◌}
 use mathlib.Core.Bool.{◌&&◌, ◌||◌, or-false}
 use mathlib.Core.List.{List}

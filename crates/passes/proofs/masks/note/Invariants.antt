@@ -1,4 +1,5 @@
--- `passes::masks::note` meets its contract. The loop's invariant: what the table has, and what the digits that are left bring, is the
+-- `passes::masks::note`, the loop's invariant: what the table has, and what the digits that are left bring, is the result. The measure is
+-- the word that is left. Assumes nothing.
 use mathlib.Core.Path.{◌≡◌}
 use mathlib.Core.Bool.{◌&&◌, ◌||◌}
 use Prim.Native.Nat.{ℕ, ◌^◌, ◌<◌}

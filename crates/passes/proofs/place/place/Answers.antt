@@ -1,4 +1,4 @@
--- `passes::place::place` meets its contract. The loop's invariant: i bytes, and those that can be read from `next` on, are the result.
+-- `passes::place::place` meets its contract. Assumes nothing.
 use mathlib.Core.Path.{◌≡◌, sym, ap, ◌∙◌}
 use mathlib.Core.Bool.{◌&&◌}
 use Prim.Native.Nat.{ℕ, ◌+◌, ◌<◌}

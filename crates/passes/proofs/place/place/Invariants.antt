@@ -1,4 +1,4 @@
--- `passes::place::place` meets its contract. The loop's invariant: i bytes, and those that can be read from `next` on, are the result.
+-- `passes::place::place`, the loop's invariant: i bytes, and those that can be read from `next` on, are the result. Assumes nothing.
 use mathlib.Core.Path.{◌≡◌}
 use Prim.Native.Nat.{◌+◌, ◌-◌, ◌≤◌}
 use lib.ListN.{length, drop}

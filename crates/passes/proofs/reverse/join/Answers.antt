@@ -1,4 +1,4 @@
--- `passes::reverse::join` meets its contract. The loop's invariant: what the table has, and what the members that are left bring, is the
+-- `passes::reverse::join` meets its contract. Assumes nothing.
 use native.Mathlib.Omega.{arith}
 use Rattle.sets.proofs.SetLaws.{without_fewer}
 use Rattle.passes.proofs.Preceding.{joining_none, joining_more, joining_all}

@@ -1,4 +1,5 @@
--- `passes::reverse::join` meets its contract. The loop's invariant: what the table has, and what the members that are left bring, is the
+-- `passes::reverse::join`, the loop's invariant: what the table has, and what the members that are left bring, is the result, and p is the
+-- least of those. The measure is how many are left. Assumes nothing.
 use Rattle.sets.specs.Members.{size}
 use Rattle.passes.proofs.Preceding.{Joining}
 use Rattle.passes.proofs.reverse.join.Given as goal

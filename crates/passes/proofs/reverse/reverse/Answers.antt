@@ -1,4 +1,4 @@
--- `passes::reverse::reverse` meets its contract. The loop's invariant: the positions below q joined. Assumes nothing.
+-- `passes::reverse::reverse` meets its contract. Assumes nothing.
 use mathlib.Core.Path.{◌≡◌}
 use native.Mathlib.Omega.{arith}
 use Rattle.sets.specs.Members.{limit}

@@ -1,4 +1,4 @@
--- `passes::reverse::reverse` meets its contract. The loop's invariant: the positions below q joined. Assumes nothing.
+-- `passes::reverse::reverse`, the loop's invariant: the positions below q joined. Assumes nothing.
 use Prim.Native.Nat.{◌-◌, ◌≤◌}
 use Rattle.sets.specs.Members.{limit}
 use Rattle.passes.specs.Ways.{Reversed}

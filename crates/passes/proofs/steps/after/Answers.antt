@@ -1,4 +1,4 @@
--- `passes::steps::after` meets its contract. The loop's invariant: what is found, and what the members that are left bring, is the result,
+-- `passes::steps::after` meets its contract. Assumes nothing.
 use mathlib.Core.Path.{sym, ap, ◌∙◌}
 use mathlib.Core.Bool.{Bool, ◌||◌, or_assoc, or-false}
 use native.Mathlib.Omega.{arith}

@@ -1,4 +1,5 @@
--- `passes::steps::after` meets its contract. The loop's invariant: what is found, and what the members that are left bring, is the result,
+-- `passes::steps::after`, the loop's invariant: what is found, and what the members that are left bring, is the result, and q is the least
+-- of those. The measure is how many are left. Assumes nothing.
 use mathlib.Core.Path.{◌≡◌}
 use mathlib.Core.Bool.{◌||◌}
 use Prim.Native.Nat.{ℕ}
