@@ -1,0 +1,20 @@
+-- `kept` meets its contract. Assumes nothing.
+use borrow.Author.Rules.{rules}
+use mathlib.Core.Path.{refl}
+use Rattle.pattern.proofs.Classes.{letter_kept}
+use Rattle.pattern.proofs.letters.kept.Goals as goal
+
+-- `kept` meets its contract. Assumes nothing.
+pub letter-t-requires : goal.letter-t-requires
+letter-t-requires c = (c.requires.0, c.requires.1)
+
+pub keep-requires : goal.keep-requires
+keep-requires c = c.requires.2
+
+pub returns-in-Not : goal.returns-in-Not
+returns-in-Not c = (rw c.past-1.given.1 at c.letter-t.ensures, refl)
+
+pub returns-in-To : goal.returns-in-To
+returns-in-To c = let read = c in
+    let h = rw read.past-in-To-1.given.1 at read.letter-t.ensures in
+    letter_kept h c.keep.ensures

@@ -1,0 +1,32 @@
+-- `scan` meets its contract. The loop's invariant: the machine has read the row up to `c`, and `none` is as it was. Assumes nothing.
+use borrow.Author.Rules.{rules}
+use mathlib.Core.Path.{◌≡◌, refl, ◌∙◌, ap}
+use native.Mathlib.Omega.{arith}
+use Prim.Native.Nat.{◌-◌, ◌≤◌}
+use lib.ListN.{length}
+use Rattle.grammar.specs.Flat.{scan_start}
+use Rattle.pattern.specs.Flat.{Reaches}
+use Rattle.pattern.proofs.scan.scan.Goals as goal
+
+pub loop-c-init : goal.loop-c-init
+loop-c-init c = (refl, scan_start, omega arith)
+
+pub step-requires : goal.step-requires
+step-requires c = let test = c in let head = test in let inv = head.loop-c.invariant in
+    (ap length inv.0 ∙ head.requires, inv.1, test.loop-c-test.true)
+
+pub returns-in-Bad : goal.returns-in-Bad
+returns-in-Bad c = let turn = c in let inv = turn.loop-c.invariant in
+    (rw c.k-1.given.1 at turn.step.ensures.0, turn.step.ensures.1 ∙ inv.0)
+
+pub loop-c-smaller : goal.loop-c-smaller
+loop-c-smaller c = let h = rw c.d-1.given.1 at c.step.ensures.0 in omega (arith, h.1)
+
+pub loop-c-preserved : goal.loop-c-preserved
+loop-c-preserved c = let turn = c in let inv = turn.loop-c.invariant in
+    let h = rw c.d-1.given.1 at turn.step.ensures.0 in
+    (turn.step.ensures.1 ∙ inv.0, h.0, h.1.inside)
+
+pub returns : goal.returns
+returns c = let inv = c.loop-c.invariant in
+    (c.ended.ensures _ inv.1 (omega (arith, inv.2, c.loop-c-test.false)), inv.0)
