@@ -9,29 +9,24 @@ use Rattle.pattern.proofs.Classes.{no_class, first_range, next_range}
 use Rattle.pattern.proofs.letters.class.Goals as goal
 
 pub loop-at-init : goal.loop-at-init
-loop-at-init c = let range = rw c.c-1.given.1 at c.class_item.ensures in
-    first_range _ _ range c.none.ensures c.with_range-class.ensures
+loop-at-init c = first_range _ _ c.in-From.ensures c.none.ensures c.with_range-class.ensures
 
 pub returns-then-p-at-eq93 : goal.returns-then-p-at-eq93
 returns-then-p-at-eq93 c = let h = c.loop-at.invariant in
     record { test = h.test; done = class_done h.done c.loop-at-test.true c.if-p-at-eq93.true; says = h.says; on = omega (arith, h.on) }
 
 pub returns-in-Bad-class_item : goal.returns-in-Bad-class_item
-returns-in-Bad-class_item c = let test = c in let inside = test in let head = inside in
-    let bad = rw c.k-in-Bad-class_item-2-1.given.1 at c.class_item-in-loop-at.ensures in
-    no_class _ c.refused-in-Bad-class_item.ensures (class_more_bad head.loop-at.invariant.done inside.loop-at-test.true test.if-p-at-eq93.false bad)
+returns-in-Bad-class_item c = no_class _ c.refused-in-Bad-class_item.ensures
+    (class_more_bad c.loop-at.invariant.done c.loop-at-test.true c.if-p-at-eq93.false c.in-Bad-class_item.ensures)
 
 pub loop-at-smaller : goal.loop-at-smaller
-loop-at-smaller c = let h = rw c.c-in-From-class_item-2-1.given.1 at c.class_item-in-loop-at.ensures in omega (arith, h.on)
+loop-at-smaller c = omega (arith, c.in-From-class_item.ensures.on)
 
 pub loop-at-preserved : goal.loop-at-preserved
-loop-at-preserved c = let head = c in
-    let range = rw c.c-in-From-class_item-2-1.given.1 at c.class_item-in-loop-at.ensures in
-    next_range _ _ head.loop-at.invariant range c.with_range-class-in-From-class_item.ensures
+loop-at-preserved c = next_range _ _ c.loop-at.invariant c.in-From-class_item.ensures c.with_range-class-in-From-class_item.ensures
 
 pub returns-in-Bad : goal.returns-in-Bad
-returns-in-Bad c = let bad = rw c.k-1.given.1 at c.class_item.ensures in
-    no_class _ c.refused.ensures (class_first_bad c.requires bad)
+returns-in-Bad c = no_class _ c.refused.ensures (class_first_bad c.requires c.in-Bad.ensures)
 
 pub returns-after-loop-at : goal.returns-after-loop-at
 returns-after-loop-at c = let inv = c.loop-at.invariant in

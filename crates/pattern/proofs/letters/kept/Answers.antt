@@ -12,9 +12,7 @@ pub keep-requires : goal.keep-requires
 keep-requires c = c.requires.2
 
 pub returns-in-Not : goal.returns-in-Not
-returns-in-Not c = (rw c.past-1.given.1 at c.letter-t.ensures, refl)
+returns-in-Not c = (rw c.in-Not.is at c.letter-t.ensures, refl)
 
 pub returns-in-To : goal.returns-in-To
-returns-in-To c = let read = c in
-    let h = rw read.past-in-To-1.given.1 at read.letter-t.ensures in
-    letter_kept h c.keep.ensures
+returns-in-To c = letter_kept (rw c.in-To.is at c.letter-t.ensures) c.keep.ensures

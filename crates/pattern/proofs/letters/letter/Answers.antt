@@ -9,8 +9,7 @@ pub returns-then-p-at : goal.returns-then-p-at
 returns-then-p-at c = no_letter _ c.refused.ensures (atom_end _ _ (omega (arith, c.if-p-at.true, c.requires.0)))
 
 pub returns-then-b-eq91 : goal.returns-then-b-eq91
-returns-then-b-eq91 c = let entry = c in
-    class_letter entry.args.p.now entry.args.at c.class.result c.if-p-at.false c.if-b-eq91.true c.class.ensures
+returns-then-b-eq91 c = class_letter c.args.p.now c.args.at c.class.result c.if-p-at.false c.if-b-eq91.true c.class.ensures
 
 pub returns-then-next-p : goal.returns-then-next-p
 returns-then-next-p c = let inside = c.if-p-at.false in let next = c.if-next-p.true in
@@ -30,8 +29,7 @@ returns-then-stray c = let inside = c.if-p-at.false in
     no_letter _ c.refused-then-stray.ensures (atom_stray _ _ inside strays)
 
 pub returns : goal.returns
-returns c = let no-dot = c in let no-escape = no-dot in let no_class = no-escape in
-    let inside = no_class.if-p-at.false in let no_group = no_class.requires.1 in
+returns c = let inside = c.if-p-at.false in let no_group = c.requires.1 in
     let plain = rw c.if-stray.false at c.stray.ensures in
-    let starts = plain (λ e. no_group (record { inside = inside; is = e })) no_class.if-b-eq91.false no-escape.if-b-eq92.false no-dot.if-b-eq46.false in
+    let starts = plain (λ e. no_group (record { inside = inside; is = e })) c.if-b-eq91.false c.if-b-eq92.false c.if-b-eq46.false in
     test_letter c.ranged-2.ensures (atom_plain _ _ inside starts) (omega (arith, inside))

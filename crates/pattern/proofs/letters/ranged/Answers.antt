@@ -6,5 +6,5 @@ use Rattle.meaning.specs.Grammar.{range}
 use Rattle.pattern.proofs.letters.ranged.Goals as goal
 
 pub returns : goal.returns
-returns c = let entry = c in let ends = range entry.args.c entry.args.d in
+returns c = let ends = range c.args.c c.args.d in
     record { past = refl; says = λ q l. c.with_range.ensures q ∙ ap (λ (b : Bool). b || ends q) (c.none.ensures q) }

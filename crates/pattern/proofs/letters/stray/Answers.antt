@@ -24,5 +24,4 @@ pub returns-then-b-eq93 : goal.returns-then-b-eq93
 returns-then-b-eq93 c = tests.stray c.if-b-eq93.true at_bad
 
 pub returns : goal.returns
-returns c = let opt = c in let plus = opt in let star = plus in let bar = star in let close = bar in
-    λ a b d e. tests.plain a close.if-b-eq41.false bar.if-b-eq124.false star.if-b-eq42.false plus.if-b-eq43.false opt.if-b-eq63.false e b c.if-b-eq93.false d
+returns c = λ a b d e. tests.plain a c.if-b-eq41.false c.if-b-eq124.false c.if-b-eq42.false c.if-b-eq43.false c.if-b-eq63.false e b c.if-b-eq93.false d

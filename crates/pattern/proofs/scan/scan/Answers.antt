@@ -12,20 +12,20 @@ pub loop-c-init : goal.loop-c-init
 loop-c-init c = (refl, scan_start, omega arith)
 
 pub step-requires : goal.step-requires
-step-requires c = let test = c in let head = test in let inv = head.loop-c.invariant in
-    (ap length inv.0 ∙ head.requires, inv.1, test.loop-c-test.true)
+step-requires c = let inv = c.loop-c.invariant in
+    (ap length inv.0 ∙ c.requires, inv.1, c.loop-c-test.true)
 
 pub returns-in-Bad : goal.returns-in-Bad
-returns-in-Bad c = let turn = c in let inv = turn.loop-c.invariant in
-    (rw c.k-1.given.1 at turn.step.ensures.0, turn.step.ensures.1 ∙ inv.0)
+returns-in-Bad c = let inv = c.loop-c.invariant in
+    (c.in-Bad.ensures.0, c.in-Bad.ensures.1 ∙ inv.0)
 
 pub loop-c-smaller : goal.loop-c-smaller
-loop-c-smaller c = let h = rw c.d-1.given.1 at c.step.ensures.0 in omega (arith, h.1)
+loop-c-smaller c = omega (arith, c.in-On.ensures.0.1)
 
 pub loop-c-preserved : goal.loop-c-preserved
-loop-c-preserved c = let turn = c in let inv = turn.loop-c.invariant in
-    let h = rw c.d-1.given.1 at turn.step.ensures.0 in
-    (turn.step.ensures.1 ∙ inv.0, h.0, h.1.inside)
+loop-c-preserved c = let inv = c.loop-c.invariant in
+    let h = c.in-On.ensures in
+    (h.1 ∙ inv.0, h.0.0, h.0.1.inside)
 
 pub returns : goal.returns
 returns c = let inv = c.loop-c.invariant in
