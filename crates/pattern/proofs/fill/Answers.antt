@@ -1,9 +1,8 @@
 -- `fill` meets its contract: which answer each way through it gives. Assumes nothing.
-use Rattle.std.proofs.Common.{List, ℕ, ◌≡◌, ◌<◌, length, get_or, refl, arith, rules}
+use Rattle.std.proofs.Common.{refl, arith, rules}
 use Rattle.meaning.specs.Promise.{long_pattern}
 use Rattle.grammar.specs.Contract.{read_fails}
 use Rattle.grammar.specs.Holds.{nodes_some}
-use Rattle.pattern.specs.Stores.{stores}
 use Rattle.pattern.proofs.Whole.{whole, room, cut_short, many_positions, many_marks, numberable, read_whole}
 use Rattle.pattern.proofs.Filling.{bare_fills}
 use Rattle.pattern.proofs.fill.Goals as goal

@@ -1,5 +1,4 @@
 -- `read` meets its contract: what was filled makes the answer. Assumes nothing.
-use borrow.Author.Rules.{rules}
 use mathlib.Core.Path.{refl}
 use native.Mathlib.Omega.{arith}
 use Rattle.pattern.proofs.Filling.{filled_read, filled_refused}

@@ -1,5 +1,4 @@
 -- `wrong` meets its contract. Assumes nothing.
-use borrow.Author.Rules.{rules}
 use native.Mathlib.Omega.{arith}
 use Rattle.pattern.proofs.Whole.{no_pattern, too_deep}
 use Rattle.pattern.proofs.wrong.Goals as goal

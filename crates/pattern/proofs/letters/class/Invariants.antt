@@ -1,11 +1,8 @@
 -- `class` meets its contract. The loop's invariant: ranges were read from `from` up to `at`, and the class holds their bytes. Assumes nothing.
-use native.Mathlib.Omega.{arith}
 use Prim.Native.Nat.{◌-◌}
 use lib.ListN.{length}
-use borrow.Author.Rules.{rules}
-use Rattle.grammar.specs.ClassContract.{RangesDone, class_done, class_open, class_first_bad, class_more_bad}
+use Rattle.grammar.specs.ClassContract.{RangesDone}
 use Rattle.pattern.specs.Letters.{LetterTo}
-use Rattle.pattern.proofs.Classes.{no_class, first_range, next_range}
 use Rattle.pattern.proofs.letters.class.Given as goal
 
 abbrev pub invariant-loop-at : goal.invariant-loop-at

@@ -1,5 +1,4 @@
 -- `class_byte` meets its contract. Assumes nothing.
-use borrow.Author.Rules.{rules}
 use native.Mathlib.Omega.{arith}
 use Rattle.grammar.specs.ClassContract.{bare_at, quoted_at, char_end, char_stray, char_cut, at_open, at_end, at_dash}
 use Rattle.grammar.specs.ByteTests.{class_plain, class_stray}

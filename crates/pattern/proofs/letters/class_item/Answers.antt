@@ -1,10 +1,6 @@
 -- `class_item` meets its contract. Assumes nothing.
-use borrow.Author.Rules.{rules}
 use native.Mathlib.Omega.{arith}
-use Prim.Native.Nat.{◌+◌}
 use Rattle.grammar.specs.ClassContract.{range_single, range_span, range_bad_low, range_bad_high, range_bad_order}
-use Rattle.pattern.specs.Letters.{Byted}
-use Rattle.pattern.specs.declared.letters.One.TheVariants.{Byte}
 use Rattle.pattern.proofs.letters.class_item.Goals as goal
 
 pub overflow_sub-result : goal.overflow_sub-result

@@ -1,5 +1,4 @@
 -- `kept` meets its contract. Assumes nothing.
-use borrow.Author.Rules.{rules}
 use mathlib.Core.Path.{refl}
 use Rattle.pattern.proofs.Classes.{letter_kept}
 use Rattle.pattern.proofs.letters.kept.Goals as goal

@@ -1,5 +1,4 @@
 -- `letter` meets its contract: one law for each way through it. Assumes nothing.
-use borrow.Author.Rules.{rules}
 use native.Mathlib.Omega.{arith}
 use Rattle.grammar.specs.Contract.{atom_plain, atom_dot, atom_escaped, atom_cut, atom_stray, atom_end}
 use Rattle.pattern.proofs.Classes.{no_letter, test_letter, class_letter}

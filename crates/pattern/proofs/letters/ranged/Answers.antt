@@ -1,5 +1,4 @@
 -- `ranged` meets its contract. Assumes nothing.
-use borrow.Author.Rules.{rules}
 use mathlib.Core.Path.{refl, ◌∙◌, ap}
 use mathlib.Core.Bool.{Bool, ◌||◌}
 use Rattle.meaning.specs.Grammar.{range}

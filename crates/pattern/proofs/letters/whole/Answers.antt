@@ -1,5 +1,4 @@
 -- `whole` meets its contract. Assumes nothing.
-use borrow.Author.Rules.{rules}
 use mathlib.Core.Path.{refl}
 use Rattle.pattern.proofs.letters.whole.Goals as goal
 

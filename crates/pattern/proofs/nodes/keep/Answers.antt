@@ -1,5 +1,4 @@
 -- `keep` meets its contract. Assumes nothing.
-use borrow.Author.Rules.{rules}
 use Rattle.sets.proofs.ClassLaws.{class_fits}
 use Rattle.pattern.proofs.Classes.{kept, unkept}
 use Rattle.pattern.proofs.nodes.keep.Goals as goal

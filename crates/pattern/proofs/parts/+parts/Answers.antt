@@ -1,7 +1,6 @@
 -- The cycle of calls {atom, branch, item, list} meets its contracts: one law for each way through each member. Assumes nothing.
-use Rattle.std.proofs.Common.{◌≡◌, ◌+◌, ◌-◌, ◌∙◌, refl, arith}
+use Rattle.std.proofs.Common.{◌∙◌, refl, arith}
 use Rattle.grammar.specs.Contract.{list_first_fails}
-use Rattle.pattern.specs.Stores.{stores}
 use Rattle.pattern.proofs.Written.{room_wrote}
 use Rattle.pattern.proofs.Steps.{
   within,

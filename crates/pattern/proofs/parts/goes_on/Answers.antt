@@ -1,5 +1,4 @@
 -- `goes_on` meets its contract. Assumes nothing.
-use borrow.Author.Rules.{rules}
 use native.Mathlib.Omega.{arith}
 use Rattle.pattern.specs.Parts.{of_text, by_bar, by_close}
 use Rattle.pattern.proofs.parts.goes_on.Goals as goal

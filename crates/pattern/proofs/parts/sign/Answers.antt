@@ -1,5 +1,4 @@
 -- `sign` meets its contract. Assumes nothing.
-use borrow.Author.Rules.{rules}
 use native.Mathlib.Omega.{arith}
 use Rattle.grammar.specs.ByteTests.{no_sign}
 use Rattle.pattern.specs.Parts.{star_at, plus_at, opt_at, none_at}

@@ -1,5 +1,4 @@
 -- `single` meets its contract. Assumes nothing.
-use borrow.Author.Rules.{rules}
 use native.Mathlib.Omega.{arith}
 use Rattle.grammar.specs.Contract.{atom_fails}
 use Rattle.pattern.proofs.Steps.{letter_read}

@@ -1,5 +1,4 @@
 -- `ended` meets its contract: one law for each way through it. Assumes nothing.
-use borrow.Author.Rules.{rules}
 use mathlib.Core.Path.{◌∙◌}
 use native.Mathlib.Omega.{arith}
 use Rattle.grammar.specs.Flat.{scan_whole, scan_group_open, scan_branch_open}

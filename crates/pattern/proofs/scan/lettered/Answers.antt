@@ -1,5 +1,4 @@
 -- `lettered` meets its contract. Assumes nothing.
-use borrow.Author.Rules.{rules}
 use native.Mathlib.Omega.{arith}
 use Rattle.meaning.specs.Expression.{pos}
 use Rattle.grammar.specs.Flat.{scan_bad, scan_letter}

@@ -1,11 +1,8 @@
 -- `scan` meets its contract. The loop's invariant: the machine has read the row up to `c`, and `none` is as it was. Assumes nothing.
-use borrow.Author.Rules.{rules}
-use mathlib.Core.Path.{◌≡◌, refl, ◌∙◌, ap}
+use mathlib.Core.Path.{refl, ◌∙◌, ap}
 use native.Mathlib.Omega.{arith}
-use Prim.Native.Nat.{◌-◌, ◌≤◌}
 use lib.ListN.{length}
 use Rattle.grammar.specs.Flat.{scan_start}
-use Rattle.pattern.specs.Flat.{Reaches}
 use Rattle.pattern.proofs.scan.scan.Goals as goal
 
 pub loop-c-init : goal.loop-c-init

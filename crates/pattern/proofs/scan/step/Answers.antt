@@ -1,5 +1,4 @@
 -- `step` meets its contract: one law for each way through it. Assumes nothing.
-use borrow.Author.Rules.{rules}
 use mathlib.Core.Path.{refl, ◌∙◌}
 use native.Mathlib.Omega.{arith}
 use Rattle.grammar.specs.Flat.{scan_open, scan_close, scan_close_behind_bar, scan_close_alone, scan_bar, scan_bar_early, scan_sign, scan_sign_early}
