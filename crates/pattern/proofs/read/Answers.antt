@@ -4,7 +4,6 @@ use native.Mathlib.Omega.{arith}
 use Rattle.pattern.proofs.Filling.{filled_read, filled_refused}
 use Rattle.pattern.proofs.read.Goals as goal
 
--- `read` meets its contract: what was filled makes the answer. Assumes nothing.
 pub fill-got-requires : goal.fill-got-requires
 fill-got-requires c = record { kinds = refl; args = refl; classes = refl }
 

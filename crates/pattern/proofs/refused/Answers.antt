@@ -3,7 +3,6 @@ use mathlib.Core.Path.{refl}
 use Rattle.meaning.specs.ReadPattern.{no_parts}
 use Rattle.pattern.proofs.refused.Goals as goal
 
--- `refused` meets its contract. Assumes nothing.
 pub returns : goal.returns
 unfolding no_parts
 returns c = record { reading = refl; no_parts = refl }

@@ -3,7 +3,6 @@ use native.Mathlib.Omega.{arith}
 use Rattle.pattern.proofs.Whole.{no_pattern, too_deep}
 use Rattle.pattern.proofs.wrong.Goals as goal
 
--- `wrong` meets its contract. Assumes nothing.
 pub scan-requires : goal.scan-requires
 scan-requires c = c.requires.2
 

@@ -3,7 +3,6 @@ use mathlib.Core.Path.{refl}
 use Rattle.pattern.proofs.Classes.{letter_kept}
 use Rattle.pattern.proofs.letters.kept.Goals as goal
 
--- `kept` meets its contract. Assumes nothing.
 pub letter-t-requires : goal.letter-t-requires
 letter-t-requires c = (c.requires.0, c.requires.1)
 

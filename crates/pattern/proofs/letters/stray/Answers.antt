@@ -4,7 +4,6 @@ use Rattle.grammar.specs.Contract.{at_close, at_bar, at_bad, at_sign}
 use Rattle.grammar.specs.ByteTests as tests
 use Rattle.pattern.proofs.letters.stray.Goals as goal
 
--- `stray` meets its contract. Assumes nothing.
 pub returns-then-b-eq41 : goal.returns-then-b-eq41
 returns-then-b-eq41 c = tests.stray c.if-b-eq41.true at_close
 
