@@ -1,6 +1,7 @@
 -- The cycle of calls {atom, branch, item, list} meets its contracts: one law for each way through each member. Assumes nothing.
 use Rattle.std.proofs.Common.{◌∙◌, refl, arith}
 use Rattle.grammar.specs.Contract.{list_first_fails}
+use Rattle.pattern.specs.Stores.{stores}
 use Rattle.pattern.proofs.Written.{room_wrote}
 use Rattle.pattern.proofs.Steps.{
   within,
@@ -41,7 +42,8 @@ atom-returns-in-Failed t c =
 pub atom-returns-then-d-p : goal.atom-returns-then-d-p
 atom-returns-then-d-p t c =
     let h = c.in-Done.ensures in
-    group_read (omega arith) c.if-stands.ensures c.past.ensures h.0 (record { inside = c.if-d-p.true; is = h.1 c.if-d-p.true }) c.past-then-d-p.ensures
+    let left = stores c.list.new.kind c.list.new.arg c.list.new.class in
+    group_read {S' = left} (omega arith) c.if-stands.ensures c.past.ensures h.0 (record { inside = c.if-d-p.true; is = h.1 c.if-d-p.true }) c.past-then-d-p.ensures
 
 pub atom-returns-in-Done : goal.atom-returns-in-Done
 atom-returns-in-Done t c =
