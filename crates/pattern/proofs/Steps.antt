@@ -10,7 +10,7 @@ use Rattle.grammar.specs.ByteTests as tests
 use Rattle.grammar.specs.Contract.{AtomDone, ItemDone, BranchDone, FrontsDone, ListDone, ItemFails, ListFails}
 use Rattle.grammar.specs.Contract.{atom_unit, atom_group, item_signed, item_bare, branch_one, branch_more, fronts_first, fronts_more, list_lone, list_several}
 use Rattle.grammar.specs.Contract.{atom_deep, atom_group_fails, atom_group_open, branch_rest_fails, list_next_fails}
-use Rattle.pattern.specs.Stores.{Stores, stores, Put, Became, Wrote, Moved, Within}
+use Rattle.pattern.specs.Stores.{Stores, stores, Room, Put, Became, Wrote, Moved, Within}
 use Rattle.pattern.specs.Letters.{KeptTo}
 use Rattle.pattern.specs.Parts.{ByteAt, Goes, End, of_text, by_bar, by_close, Signed, star_at, plus_at, opt_at, none_at, ReadTo, FrontsAt}
 use Rattle.pattern.specs.declared.nodes.Cursor.{Cursor}
@@ -128,6 +128,13 @@ first_front h x b p = record {
   moved = omega (arith, h.moved, b);
   wrote = wrote_over (over_branch h.reading) h.wrote b p;
 }
+
+-- where a list goes on: branches are read from c to d, a bar behind each, and d stands at the last of these bars
+pub record AtBar (s : List ℕ) (left : ℕ) (c d : Cursor) (S S' : Stores) : Type 0 where
+  pub inside : Within (length s) d
+  pub room : Room S'
+  pub bar : ByteAt s d.at 124
+  pub reads : ReadTo 0 FrontsAt s left c d S S'
 
 -- branches with a bar behind each, and one more
 pub record Turned (s : List ℕ) (left : ℕ) (c d : Cursor) (S S' : Stores) : Type 0 where

@@ -80,7 +80,7 @@ fn single(
     }
 }
 
-#[cycle(atom_branch_item_list)]
+#[cycle(parts)]
 pub fn list(
     p: &[u8],
     kind: &mut [u8; 1024],
@@ -117,7 +117,7 @@ pub fn list(
 }
 
 // An item, and the rest of the branch where it goes on.
-#[cycle(atom_branch_item_list)]
+#[cycle(parts)]
 fn branch(
     p: &[u8],
     kind: &mut [u8; 1024],
@@ -146,7 +146,7 @@ fn branch(
     }
 }
 
-#[cycle(atom_branch_item_list)]
+#[cycle(parts)]
 fn item(
     p: &[u8],
     kind: &mut [u8; 1024],
@@ -171,7 +171,7 @@ fn item(
     }
 }
 
-#[cycle(atom_branch_item_list)]
+#[cycle(parts)]
 fn atom(
     p: &[u8],
     kind: &mut [u8; 1024],
