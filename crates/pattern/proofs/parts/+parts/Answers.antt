@@ -48,7 +48,8 @@ atom-returns-then-d-p t c =
 pub atom-returns-in-Done : goal.atom-returns-in-Done
 atom-returns-in-Done t c =
     let h = c.in-Done.ensures in
-    (open_group c.if-stands.ensures c.past.ensures h.0 c.if-d-p.false, room_wrote h.0.wrote c.requires.0)
+    let left = stores c.list.new.kind c.list.new.arg c.list.new.class in
+    (open_group {S' = left} c.if-stands.ensures c.past.ensures h.0 c.if-d-p.false, room_wrote h.0.wrote c.requires.0)
 
 pub atom-returns : goal.atom-returns
 atom-returns t c = c.single.ensures c.args.left
@@ -87,13 +88,15 @@ list-returns-in_Failed-p t c =
 pub list-returns-else-stands : goal.list-returns-else-stands
 list-returns-else-stands t c =
     let h = c.in_Done-p.ensures in
-    (lone_list h.0, list_end h.1 refl c.if-stands.ensures)
+    let left = stores c.branch-p.new.kind c.branch-p.new.arg c.branch-p.new.class in
+    (lone_list {S' = left} h.0, list_end h.1 refl c.if-stands.ensures)
 
 -- the first branch was read, and its mark written
 pub list-loop-e-init : goal.list-loop-e-init
 list-loop-e-init t c =
     let mark = c.marked-d.ensures in
-    let reads = first_front c.in_Done-p.ensures.0 c.if-stands.ensures mark.became mark.put in
+    let left = stores c.branch-p.new.kind c.branch-p.new.arg c.branch-p.new.class in
+    let reads = first_front {S₁ = left} c.in_Done-p.ensures.0 c.if-stands.ensures mark.became mark.put in
     record {
       inside = within c.requires.1 reads.moved;
       room = room_wrote reads.wrote c.requires.0;
@@ -113,7 +116,9 @@ list-returns-then-not-stands t c =
     let more = c.in_Done-p-in_Done-p.ensures in
     let mark = c.marked-m.ensures in
     let joint = c.joined-d.ensures in
-    let h = turned c.loop-e.invariant.reads c.past.ensures more.0 mark.became mark.put joint.became joint.put in
+    let held = stores c.loop-e.kind c.loop-e.arg c.loop-e.class in
+    let left = stores c.branch-p-in-loop-e.new.kind c.branch-p-in-loop-e.new.arg c.branch-p-in-loop-e.new.class in
+    let h = turned {S₁ = held} {S₂ = left} c.loop-e.invariant.reads c.past.ensures more.0 mark.became mark.put joint.became joint.put in
     (turned_list h, list_end more.1 (joint.became.at ∙ mark.became.at) c.if-not-stands.ensures)
 
 pub list-loop-e-preserved : goal.list-loop-e-preserved
@@ -121,7 +126,9 @@ list-loop-e-preserved t c =
     let more = c.in_Done-p-in_Done-p.ensures in
     let mark = c.marked-m.ensures in
     let joint = c.joined-d.ensures in
-    let h = turned c.loop-e.invariant.reads c.past.ensures more.0 mark.became mark.put joint.became joint.put in
+    let held = stores c.loop-e.kind c.loop-e.arg c.loop-e.class in
+    let left = stores c.branch-p-in-loop-e.new.kind c.branch-p-in-loop-e.new.arg c.branch-p-in-loop-e.new.class in
+    let h = turned {S₁ = held} {S₂ = left} c.loop-e.invariant.reads c.past.ensures more.0 mark.became mark.put joint.became joint.put in
     record {
       inside = within c.requires.1 h.moved;
       room = room_wrote h.wrote c.requires.0;
