@@ -76,10 +76,13 @@ so_long at n = omega arith
 
 -- the tree room is as long as it was
 report_room : {e : Re} {text room row room' : List ℕ} {n : ℕ} → Report e text room n row room' → length room' ≡ length room
-report_room (long_text l) = refl
-report_room (judged l (Judged.no_tree x p)) = refl
-report_room (judged l (small_room x h)) = refl
-report_room {room = room} (judged l (Judged.tree {row = row} x h y)) = simp (length-append, length-drop) (omega arith)
+report_room {e} {text} {room} {row} {room'} {n} r = one n row room' r
+  where
+    one : (n : ℕ) (row room' : List ℕ) → Report e text room n row room' → length room' ≡ length room
+    one n row room' (long_text l) = refl
+    one n row room' (judged l (Judged.no_tree x p)) = refl
+    one n row room' (judged l (small_room x h)) = refl
+    one n row room' (judged l (Judged.tree {row = tree} x h y)) = simp (length-append, length-drop) (omega arith)
 
 -- what holds whatever the pattern denotes: the rest of the lengths, how many cells and tokens there are, room for the numbers and for the figures
 pub record Along (bytes lengths cells₀ cells room₀ room numbers ts bs : List ℕ) (i at : ℕ) : Type 0 where

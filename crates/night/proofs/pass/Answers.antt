@@ -15,10 +15,6 @@ use Rattle.tree.specs.Judge.{Prepared}
 use Rattle.night.proofs.Going.{so_long, Going, going_none, going_more, going_all, Along, along_none, next_end, spacious, along_more}
 use Rattle.night.proofs.pass.Goals as goal
 
--- a report is left
-more : (c : tie.In-loop invariant-loop decreases-loop) → c.loop-i.i < length c.args.lengths.now
-more c = omega arith
-
 pub loop-i-init : goal.loop-i-init
 unfolding rows
 loop-i-init c =
@@ -27,55 +23,28 @@ loop-i-init c =
 
 pub overflow_add-end : goal.overflow_add-end
 overflow_add-end c =
-    let l = c.loop-i in
-    omega (arith, next_end l.invariant.0 (omega arith))
+    omega (arith, next_end c.loop-i.invariant.0 (omega arith))
 
--- LOST part-report-start
--- part-report-start : tie.Need-slice-bounds-report-start invariant-loop decreases-loop
--- part-report-start c = omega arith
-
--- LOST part-report-end
--- part-report-end : tie.Need-slice-bounds-report-end invariant-loop decreases-loop
--- part-report-end c =
---     let l = c.loop-i in
---     omega (arith, next_end l.invariant.0 (omega arith))
-
-pub report-r-requires : goal.report-r-requires
-report-r-requires c =
-    let asked = c.requires in
-    let here = c.loop-i.invariant in
-    record { prepares = asked.prepares; cells_lent = omega (arith, here.0.same_cells, asked.cells_lent); spacious = spacious here.0 (omega arith) asked.lengths_right.few_reports; memo = here.2; stock = here.3 }
-
-pub bounds-numbers-i : goal.bounds-numbers-i
-bounds-numbers-i c =
-    omega (arith, more c, c.requires.lengths_right.few_reports)
-
-pub overflow_add-i : goal.overflow_add-i
-overflow_add-i c =
-    omega (arith, more c, c.requires.lengths_right.few_reports)
+pub slice_bounds-report-end : goal.slice_bounds-report-end
+slice_bounds-report-end c = omega (arith, next_end c.loop-i.invariant.0 (omega arith))
 
 pub loop-i-preserved : goal.loop-i-preserved
 loop-i-preserved c =
+    let more : c.loop-i.i < length c.args.lengths.now = omega arith in
     let asked = c.requires in
     let given = c.args in
     let here = c.loop-i.invariant in (
-      along_more here.0 (more c) (c.report-r.ensures.reported _ asked.prepares.prepared),
+      along_more here.0 more (c.report-r.ensures.reported _ asked.prepares.prepared),
       λ e p.
           let r = c.report-r.ensures.reported e p in
           let g = here.1 e p in (
-            going_more g.0 (more c) (omega (arith, more c, here.0.Each-number, asked.lengths_right.few_reports))
-                (rw (so_long c.loop-i.at (get_or given.lengths.now c.loop-i.i 0)) at r.report-r) r.tallied,
+            going_more g.0 more (omega (arith, more, here.0.each_number, asked.lengths_right.few_reports))
+                (rw (so_long c.loop-i.at (get_or given.lengths.now c.loop-i.i 0)) at r.report) r.tallied,
             r.past ∙ g.1,
           ),
       c.report-r.ensures.remembered,
       c.report-r.ensures.stocked,
     )
-
-pub shape_of-cells : goal.shape_of-cells
-shape_of-cells c = omega (arith, c.loop-i.invariant.0.same_cells)
-
-pub shape_of-tree : goal.shape_of-tree
-shape_of-tree c = omega (arith, c.loop-i.invariant.0.same_room)
 
 pub returns : goal.returns
 returns c = λ e p.
