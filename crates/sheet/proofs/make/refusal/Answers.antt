@@ -1,0 +1,7 @@
+-- `sheet::make::refusal` meets its contract. Assumes nothing.
+use mathlib.Core.Path.{refl}
+use Rattle.sheet.proofs.make.refusal.Goals as goal
+
+-- `sheet::make::refusal` meets its contract. Assumes nothing.
+pub returns : goal.returns
+returns c = refl
