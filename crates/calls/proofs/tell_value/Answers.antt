@@ -1,0 +1,8 @@
+-- `calls::tell_value` meets its contract. Assumes nothing.
+use borrow.Author.Rules.{rules}
+use Rattle.calls.proofs.Told.{value_told}
+use Rattle.calls.proofs.tell_value.Goals as goal
+
+pub returns : goal.returns
+returns c =
+    (c.number.ensures, value_told c.args.out.now c.value-value.ensures c.tell.ensures)
