@@ -12,7 +12,7 @@ use Rattle.positions.specs.Positions.{Out, pass, at}
 use Rattle.positions.specs.Runs.{Run, row_of, out_of, other_of, resume_run}
 use Rattle.positions.specs.Sets.{follows}
 use Rattle.sets.specs.declared.set.Set.{Set}
-use Rattle.sets.specs.Members.{has, limit, row, rows}
+use Rattle.sets.specs.Members.{has, limit, rows}
 use Rattle.walks.specs.declared.step.Step.{Step}
 use Rattle.walks.specs.Resume.{Placed, ResumesAt}
 use Rattle.walks.specs.Steps.{cursor, step_of, Wrote}

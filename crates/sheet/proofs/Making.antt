@@ -1,8 +1,8 @@
 -- From the parts of a night to the promise of the sheet. Assumes nothing.
-use mathlib.Core.Path.{◌≡◌, refl, sym, ap, ◌∙◌}
+use mathlib.Core.Path.{◌≡◌, refl, ap, ◌∙◌}
 use mathlib.Core.List.{List, [], ◌∷◌, ◌++◌}
 use mathlib.Core.Logic.{◌⊎◌, inl, inr}
-use Prim.Native.Nat.{ℕ, zero, suc, ◌+◌, ◌≤◌, ◌<◌}
+use Prim.Native.Nat.{ℕ, suc, ◌+◌, ◌≤◌}
 use native.Mathlib.Omega.{arith}
 use lib.ListN.{length, take, drop, replicate}
 use borrow.Author.Tests.{eq-eqb, ne_eqb}
@@ -10,7 +10,7 @@ use Rattle.meaning.specs.declared.Record.{Record}
 use Rattle.meaning.specs.Expression.{Re, marks}
 use Rattle.meaning.specs.Limits.{pattern_limit, mark_limit, night_cells, sheet_bytes}
 use Rattle.meaning.specs.Night.{records}
-use Rattle.meaning.specs.Sheet.{SheetLent, LengthsRight, MarksRight, Sheeted, wrong_lengths, wrong_marks, much_last, sheeted, sheet_text, tonight}
+use Rattle.meaning.specs.Sheet.{SheetLent, LengthsRight, Sheeted, wrong_lengths, wrong_marks, much_last, sheeted, sheet_text, tonight}
 use Rattle.laws.specs.SheetFits.{sheeted_small}
 use Rattle.lines.specs.Wrote.{Wrote}
 use Rattle.night.specs.Reports.{Counts, Nightly}

@@ -9,7 +9,6 @@ use mir.Val.{Fits}
 use Rattle.meaning.specs.Expression.{Re}
 use Rattle.meaning.specs.Limits.{pattern_limit, text_limit}
 use Rattle.meaning.specs.Promise.{Ready, Refused}
-use Rattle.meaning.specs.ReadPattern.{nodes}
 use Rattle.grammar.specs.Accepted.{accepted_fair, accepted_open}
 use Rattle.grammar.specs.Holds.{nodes_some}
 use Rattle.pattern.specs.declared.Filled.{Filled}

@@ -1,5 +1,4 @@
 -- `calls::first_tree_call` meets its contract. Assumes nothing.
-use borrow.Author.Rules.{rules}
 use Rattle.calls.proofs.Told.{first_tree_told}
 use Rattle.calls.proofs.first_tree_call.Goals as goal
 

@@ -1,7 +1,6 @@
 -- `calls::put` meets its contract. Assumes nothing.
 use mathlib.Core.Path.{sym}
 use lib.Seq.{set_out}
-use borrow.Author.Rules.{rules}
 use Rattle.calls.proofs.put.Goals as goal
 
 pub returns-else-at-out : goal.returns-else-at-out

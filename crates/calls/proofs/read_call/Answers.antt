@@ -1,5 +1,4 @@
 -- `calls::read_call` meets its contract. Assumes nothing.
-use borrow.Author.Rules.{rules}
 use Rattle.calls.proofs.Told.{read_told}
 use Rattle.calls.proofs.read_call.Goals as goal
 

@@ -1,11 +1,8 @@
 -- `calls::tell` meets its contract. Assumes nothing.
-use mathlib.Core.Path.{◌≡◌, refl, ap, ◌∙◌}
-use mathlib.Core.List.{List}
-use Prim.Native.Nat.{ℕ, ◌≤◌, ◌-◌}
+use mathlib.Core.Path.{◌≡◌}
+use Prim.Native.Nat.{◌≤◌, ◌-◌}
 use lib.ListN.{length, take}
-use lib.Seq.{sets, length-sets}
-use borrow.Author.Rules.{rules}
-use Rattle.calls.proofs.Figures.{figures_more, figures_all}
+use lib.Seq.{sets}
 use Rattle.calls.proofs.tell.Given as goal
 
 abbrev pub invariant-loop-i : goal.invariant-loop-i

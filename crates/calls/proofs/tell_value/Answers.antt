@@ -1,5 +1,4 @@
 -- `calls::tell_value` meets its contract. Assumes nothing.
-use borrow.Author.Rules.{rules}
 use Rattle.calls.proofs.Told.{value_told}
 use Rattle.calls.proofs.tell_value.Goals as goal
 

@@ -1,5 +1,4 @@
 -- `calls::turns_call` meets its contract. Assumes nothing.
-use borrow.Author.Rules.{rules}
 use Rattle.calls.proofs.Told.{turns_told}
 use Rattle.calls.proofs.turns_call.Goals as goal
 

@@ -1,18 +1,12 @@
 -- `night::pass` meets its contract. The loop's invariant: i reports are passed, which end at byte `at`, and what is kept is right. Assumes nothing.
-use mathlib.Core.Path.{◌≡◌, refl, sym, ◌∙◌}
-use Prim.Native.Nat.{◌-◌, ◌≤◌, ◌<◌}
+use mathlib.Core.Path.{refl, ◌∙◌}
+use Prim.Native.Nat.{◌<◌}
 use native.Mathlib.Omega.{arith}
-use lib.ListN.{length, get_or, drop}
-use borrow.Author.Rules.{rules}
-use Rattle.meaning.specs.Expression.{Re}
-use Rattle.meaning.specs.Limits.{night_cells}
+use lib.ListN.{length, get_or}
 use Rattle.sets.specs.Members.{rows}
-use Rattle.passes.specs.Ways.{Memo}
 use Rattle.passes.proofs.Memos.{memo_none}
-use Rattle.along.specs.Links.{Stock}
 use Rattle.along.proofs.Stocks.{stock_none}
-use Rattle.tree.specs.Judge.{Prepared}
-use Rattle.night.proofs.Going.{so_long, Going, going_none, going_more, going_all, Along, along_none, next_end, spacious, along_more}
+use Rattle.night.proofs.Going.{so_long, going_none, going_more, going_all, along_none, next_end, along_more}
 use Rattle.night.proofs.pass.Goals as goal
 
 pub loop-i-init : goal.loop-i-init

@@ -1,12 +1,10 @@
 -- `rows::front_of` meets its contract. Assumes nothing.
-use mathlib.Core.Path.{◌≡◌, ap}
-use Prim.Native.Nat.{◌+◌}
+use mathlib.Core.Path.{ap}
 use native.Mathlib.Omega.{arith}
-use lib.ListN.{length, take}
+use lib.ListN.{length}
 use borrow.Author.Rules.{rules}
-use Rattle.meaning.specs.Desk.{token}
 use Rattle.lines.proofs.WroteLaws.{wrote_back}
-use Rattle.rows.proofs.FrontLaws.{Guess, guess, none_big, none_other, begins}
+use Rattle.rows.proofs.FrontLaws.{guess, none_big, none_other, begins}
 use Rattle.rows.proofs.front_of.Goals as goal
 
 pub returns-then-n-gt65535 : goal.returns-then-n-gt65535

@@ -1,8 +1,4 @@
 -- `rows::line_in` meets its contract. Assumes nothing.
-use Prim.Native.Nat.{◌≤◌}
-use lib.ListN.{length}
-use borrow.Author.Rules.{rules}
-use Rattle.lines.specs.Parts.{Headed}
 use Rattle.lines.proofs.PartsLaws.{headed_long}
 use Rattle.rows.proofs.FrontLaws.{from_on}
 use Rattle.rows.proofs.RowLaws.{word_tree, line_headed, found_line}

@@ -1,9 +1,7 @@
 -- `rows::number_in` meets its contract. Assumes nothing.
-use Prim.Native.Nat.{◌-◌}
 use native.Mathlib.Omega.{arith}
-use lib.ListN.{length}
 use borrow.Author.Rules.{rules}
-use Rattle.rows.proofs.NumberLaws.{Sofar, sofar_none, sofar_low, sofar_high, sofar_big, sofar_end, sofar_more}
+use Rattle.rows.proofs.NumberLaws.{sofar_none, sofar_low, sofar_high, sofar_big, sofar_end, sofar_more}
 use Rattle.rows.proofs.number_in.Goals as goal
 
 pub loop-i-init : goal.loop-i-init

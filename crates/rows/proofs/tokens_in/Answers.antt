@@ -4,10 +4,9 @@ use Prim.Native.Nat.{◌+◌, ◌-◌, ◌≤◌}
 use Rattle.rows.specs.declared.Front.{Front}
 use native.Mathlib.Omega.{arith}
 use lib.ListN.{length, drop, length-drop}
-use borrow.Author.Rules.{rules}
 use Rattle.rows.specs.Front.{FrontOf, Begins}
 use Rattle.rows.proofs.FrontLaws.{from_on}
-use Rattle.rows.proofs.RowLaws.{Past, past_none, past_more, past_end, past_kept}
+use Rattle.rows.proofs.RowLaws.{past_none, past_more, past_end, past_kept}
 use Rattle.rows.proofs.tokens_in.Goals as goal
 
 -- with what the bytes that are left begin

@@ -1,11 +1,7 @@
 -- `rows::tokens_in` meets its contract. Assumes nothing.
-use Prim.Native.Nat.{◌+◌, ◌-◌, ◌≤◌}
-use native.Mathlib.Omega.{arith}
-use lib.ListN.{length, drop, length-drop}
-use borrow.Author.Rules.{rules}
-use Rattle.rows.specs.Front.{FrontOf, Begins}
-use Rattle.rows.proofs.FrontLaws.{from_on}
-use Rattle.rows.proofs.RowLaws.{Past, past_none, past_more, past_end, past_kept}
+use Prim.Native.Nat.{◌-◌}
+use lib.ListN.{length}
+use Rattle.rows.proofs.RowLaws.{Past}
 use Rattle.rows.proofs.tokens_in.Given as goal
 
 abbrev pub invariant-loop-t : goal.invariant-loop-t

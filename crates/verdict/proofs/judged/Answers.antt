@@ -1,7 +1,6 @@
 -- `verdict::judged` meets its contract. Assumes nothing.
 use mathlib.Core.Path.{sym, ◌∙◌}
 use Rattle.verdict.proofs.Verdicts.{verdict_several, verdict_told}
-use borrow.Author.Rules.{rules}
 use Rattle.verdict.proofs.judged.Goals as goal
 
 pub returns-then-flag-eq1 : goal.returns-then-flag-eq1

@@ -42,7 +42,7 @@ recall-s-requires c =
     let left : c.loop-s.s.read + 1 < length c.args.text.now = omega arith in
     let came = c.loop-s.invariant.2 asked.e asked.used asked.guided asked.kept asked.along in
     let same = turn c.args.cells.now c.args.follow.now c.args.keys.now c.loop-s.s _ _ _ _ _ _ c.load-goal.ensures c.load.ensures c.meet-near.ensures c.kept_at-p.ensures
-        c.load-in-loop-s.ensures c.same.ensures c.if-not-same.false in
+    c.load-in-loop-s.ensures c.same.ensures c.if-not-same.false in
     glide_recalls asked.guided came.along same left asked.kept asked.few asked.all_tokens
 
 pub loop-s-preserved : goal.loop-s-preserved
@@ -51,7 +51,7 @@ loop-s-preserved c =
     let left : c.loop-s.s.read + 1 < length c.args.text.now = omega arith in
     let came = c.loop-s.invariant in
     let same = turn c.args.cells.now c.args.follow.now c.args.keys.now c.loop-s.s _ _ _ _ _ _ c.load-goal.ensures c.load.ensures c.meet-near.ensures c.kept_at-p.ensures
-        c.load-in-loop-s.ensures c.same.ensures c.if-not-same.false in (
+    c.load-in-loop-s.ensures c.same.ensures c.if-not-same.false in (
       omega (arith, recalled.read),
       omega (arith, recalled.read, came.1),
       λ e u g k a.

@@ -1,8 +1,6 @@
 -- `along::lay::copy` meets its contract. The loop's invariant: the first i tokens are copied. Assumes nothing.
 use mathlib.Core.Path.{refl}
-use Prim.Native.Nat.{◌-◌, ◌≤◌}
 use native.Mathlib.Omega.{arith}
-use Rattle.along.specs.Rows.{Laid}
 use Rattle.along.proofs.Copying.{laid_none, laid_next, laid_out, laid_spare}
 use Rattle.along.proofs.lay.copy.Goals as goal
 

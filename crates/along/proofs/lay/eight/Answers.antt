@@ -2,7 +2,6 @@
 use native.Mathlib.Omega.{arith}
 use lib.ListN.{length-set}
 use Rattle.along.proofs.Copying.{eight_laid}
-use borrow.Author.Rules.{rules}
 use Rattle.along.proofs.lay.eight.Goals as goal
 
 pub bounds-tree-at-2 : goal.bounds-tree-at-2

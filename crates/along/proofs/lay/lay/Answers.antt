@@ -2,7 +2,6 @@
 use native.Mathlib.Omega.{arith}
 use borrow.Author.Tests.{leb-true}
 use Rattle.along.proofs.Copying.{laid_spare}
-use borrow.Author.Rules.{rules}
 use Rattle.along.proofs.lay.lay.Goals as goal
 
 pub eight-requires : goal.eight-requires

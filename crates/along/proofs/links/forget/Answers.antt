@@ -1,7 +1,7 @@
 -- `along::links::forget` meets its contract. The loop's invariant: the first i keys are zero, the others as they came. Assumes nothing.
 use mathlib.Core.Path.{◌≡◌, sym, ap, ◌∙◌}
 use mathlib.Core.List.{List, ◌++◌, append-nil}
-use Prim.Native.Nat.{ℕ, ◌-◌, ◌≤◌}
+use Prim.Native.Nat.{ℕ}
 use native.Mathlib.Omega.{arith}
 use lib.ListN.{length, drop, replicate, set}
 use lib.Seq.{drop-length}

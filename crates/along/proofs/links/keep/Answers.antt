@@ -4,7 +4,6 @@ use native.Mathlib.Omega.{arith}
 use Rattle.walks.specs.Steps.{cursor}
 use Rattle.along.specs.Links.{position_of}
 use Rattle.along.proofs.Linking.{keeps_passed, keeps_stopped}
-use borrow.Author.Rules.{rules}
 use Rattle.along.proofs.links.keep.Goals as goal
 
 pub overflow_sub-result : goal.overflow_sub-result

@@ -5,7 +5,6 @@ use native.Mathlib.Omega.{arith}
 use Rattle.sets.specs.Members.{rows}
 use Rattle.along.proofs.Linking.{place_of, near_is}
 use Rattle.along.proofs.Stocks.{laid_wrote, linked_inside, pool_placed, pool_on, pool_inside, pool_long, stock_forgot, stock_more}
-use borrow.Author.Rules.{rules}
 use Rattle.along.proofs.links.onward.Goals as goal
 
 pub returns-then-last : goal.returns-then-last
@@ -49,9 +48,12 @@ returns c =
     let given = c.args in
     let gone = c.resume-u.ensures in
     let stock = asked.stock in
-    let placed = asked.linked.placed in record { went = record {
+    let placed = asked.linked.placed in record {
+      went = record {
         wrote = λ e held inside.
             rw kept.step
             (laid_wrote _ (gone.wrote e 0 0 held (omega arith, omega arith)) (omega (arith, fits, end, pool_long stock placed gone)) (ap (λ (m : ℕ). m - given.used) end) c.copy.ensures);
-      }; stocked = stock_more stock placed gone c.if-last.false end (omega (arith, fits)) (place_of place) (linked_inside asked.linked)
-          (λ e held inside. near_is e given.follow.now given.q _ _ given.goal (asked.charted.follow e held given.q inside) c.load.ensures c.meet-near.ensures) kept }
+      };
+      stocked = stock_more stock placed gone c.if-last.false end (omega (arith, fits)) (place_of place) (linked_inside asked.linked)
+          (λ e held inside. near_is e given.follow.now given.q _ _ given.goal (asked.charted.follow e held given.q inside) c.load.ensures c.meet-near.ensures) kept;
+    }

@@ -1,7 +1,6 @@
 -- `along::walk::stand` meets its contract. Assumes nothing.
 use mathlib.Core.Path.{refl, sym, ◌∙◌}
 use Rattle.along.proofs.Along.{apart}
-use borrow.Author.Rules.{rules}
 use Rattle.along.proofs.walk.stand.Goals as goal
 
 pub returns-in-Passed : goal.returns-in-Passed

@@ -1,5 +1,5 @@
 -- `along::walk::walk` meets its contract. Assumes nothing.
-use Rattle.std.proofs.Common.{◌∙◌, ◌<◌, arith, length}
+use Rattle.std.proofs.Common.{◌<◌, arith, length}
 use Rattle.along.proofs.Coming.{came_then}
 use Rattle.along.proofs.Advance.{ended_zero, walk_start, start_beyond, walk_glides, walk_glided, walk_linked, walk_end}
 use Rattle.along.proofs.walk.walk.Goals as goal

@@ -1,15 +1,10 @@
 -- `along::walk::walk` meets its contract. The loop's invariant: whatever the root holds, the walk has come along i bytes, and what is kept is
-use mathlib.Core.Path.{◌∙◌}
-use mathlib.Core.List.{List}
-use Prim.Native.Nat.{ℕ, ◌-◌, ◌≤◌, ◌<◌}
-use native.Mathlib.Omega.{arith}
+use Prim.Native.Nat.{◌-◌, ◌≤◌}
 use lib.ListN as lists
 use Rattle.meaning.specs.Expression.{Re}
 use Rattle.along.specs.Along.{Along, Came}
 use Rattle.along.specs.Links.{Stock}
 use Rattle.along.specs.Walk.{Walkable}
-use Rattle.along.proofs.Coming.{came_here, came_then}
-use Rattle.along.proofs.Advance.{ended_zero, walk_start, start_beyond, walk_glides, walk_glided, walk_linked, walk_ready, walk_end}
 use Rattle.along.proofs.walk.walk.Given as goal
 
 abbrev pub invariant-loop-i : goal.invariant-loop-i

@@ -1,7 +1,6 @@
 -- `lines::desk::parted` meets its contract. Assumes nothing.
 use native.Mathlib.Omega.{arith}
 use lib.ListN.{length-take}
-use borrow.Author.Rules.{rules}
 use Rattle.lines.proofs.AnswerLaws.{answer_parted}
 use Rattle.lines.proofs.desk.parted.Goals as goal
 

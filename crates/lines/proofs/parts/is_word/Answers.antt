@@ -1,7 +1,5 @@
 -- `lines::parts::is_word` meets its contract. Assumes nothing.
-use mathlib.Core.Path.{◌≡◌, refl}
-use Prim.Native.Nat.{◌≤◌, ◌-◌}
-use lib.ListN.{length, take}
+use mathlib.Core.Path.{refl}
 use borrow.Author.Rules.{rules}
 use Rattle.lines.proofs.PartsLaws.{same_more, headed_all, headed_not, headed_short}
 use Rattle.lines.proofs.parts.is_word.Goals as goal

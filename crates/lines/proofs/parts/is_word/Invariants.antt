@@ -1,9 +1,7 @@
 -- `lines::parts::is_word` meets its contract. Assumes nothing.
-use mathlib.Core.Path.{◌≡◌, refl}
+use mathlib.Core.Path.{◌≡◌}
 use Prim.Native.Nat.{◌≤◌, ◌-◌}
 use lib.ListN.{length, take}
-use borrow.Author.Rules.{rules}
-use Rattle.lines.proofs.PartsLaws.{same_more, headed_all, headed_not, headed_short}
 use Rattle.lines.proofs.parts.is_word.Given as goal
 
 abbrev pub invariant-loop-i : goal.invariant-loop-i

@@ -1,8 +1,6 @@
 -- `lines::parts::split` meets its contract. Assumes nothing.
-use Prim.Native.Nat.{◌-◌}
-use lib.ListN.{length}
 use borrow.Author.Rules.{rules}
-use Rattle.lines.proofs.PartsLaws.{Ahead, ahead_none, ahead_more, ahead_here, ahead_end}
+use Rattle.lines.proofs.PartsLaws.{ahead_none, ahead_more, ahead_here, ahead_end}
 use Rattle.lines.proofs.parts.split.Goals as goal
 
 pub loop-i-init : goal.loop-i-init

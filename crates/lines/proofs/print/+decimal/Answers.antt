@@ -1,7 +1,5 @@
 -- A number in decimal: the measure is the number. Assumes nothing.
-use Prim.Native.Nat.{ℕ, ◌<◌}
 use native.Mathlib.Omega.{arith}
-use borrow.Author.Rules.{rules}
 use Rattle.lines.proofs.WroteLaws.{wrote_then, wrote_kept}
 use Rattle.lines.proofs.DeskLaws.{digits_tenth, wrote_last, wrote_low}
 use Rattle.lines.proofs.print.+decimal.Goals as goal

@@ -1,5 +1,4 @@
 -- `lines::print::lettered` meets its contract. Assumes nothing.
-use borrow.Author.Rules.{rules}
 use Rattle.lines.proofs.WroteLaws.{wrote_then}
 use Rattle.lines.proofs.print.lettered.Goals as goal
 

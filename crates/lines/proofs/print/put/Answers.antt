@@ -1,7 +1,6 @@
 -- `lines::print::put` meets its contract. Assumes nothing.
 use mathlib.Core.Path.{refl, sym}
 use lib.Seq.{set_out}
-use borrow.Author.Rules.{rules}
 use Rattle.lines.proofs.print.put.Goals as goal
 
 pub returns-else-at-out : goal.returns-else-at-out

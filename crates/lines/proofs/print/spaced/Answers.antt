@@ -1,6 +1,5 @@
 -- `lines::print::spaced` meets its contract. Assumes nothing.
 use native.Mathlib.Omega.{arith}
-use borrow.Author.Rules.{rules}
 use Rattle.lines.proofs.WroteLaws.{wrote_then}
 use Rattle.laws.specs.Digits.{digits_length}
 use Rattle.lines.proofs.print.spaced.Goals as goal

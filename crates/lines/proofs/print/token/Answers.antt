@@ -1,6 +1,5 @@
 -- `lines::print::token` meets its contract. Assumes nothing.
 use native.Mathlib.Omega.{arith}
-use borrow.Author.Rules.{rules}
 use Rattle.lines.proofs.DeskLaws.{wrote_token, token_opens, token_closes, token_byte}
 use Rattle.lines.proofs.print.token.Goals as goal
 

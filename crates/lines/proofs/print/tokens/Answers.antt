@@ -1,9 +1,6 @@
 -- `lines::print::tokens` meets its contract. Assumes nothing.
-use Prim.Native.Nat.{◌+◌, ◌*◌, ◌-◌, ◌≤◌}
-use lib.ListN.{take}
 use borrow.Author.Rules.{rules}
 use Rattle.meaning.specs.Desk.{tokens}
-use Rattle.lines.specs.Wrote.{Wrote}
 use Rattle.lines.proofs.DeskLaws.{tokens_more, tokens_all}
 use Rattle.lines.proofs.WroteLaws.{wrote_none, wrote_kept}
 use Rattle.lines.proofs.print.tokens.Goals as goal

@@ -1,9 +1,7 @@
 -- `lines::print::word` meets its contract. Assumes nothing.
-use Prim.Native.Nat.{◌≤◌, ◌-◌}
 use native.Mathlib.Omega.{arith}
-use lib.ListN.{length, take, length-take}
+use lib.ListN.{length-take}
 use borrow.Author.Rules.{rules}
-use Rattle.lines.specs.Wrote.{Wrote}
 use Rattle.lines.proofs.WroteLaws.{wrote_none, word_more, word_all, wrote_kept}
 use Rattle.lines.proofs.print.word.Goals as goal
 

@@ -1,10 +1,7 @@
 -- `lines::print::word` meets its contract. Assumes nothing.
 use Prim.Native.Nat.{◌≤◌, ◌-◌}
-use native.Mathlib.Omega.{arith}
-use lib.ListN.{length, take, length-take}
-use borrow.Author.Rules.{rules}
+use lib.ListN.{length, take}
 use Rattle.lines.specs.Wrote.{Wrote}
-use Rattle.lines.proofs.WroteLaws.{wrote_none, word_more, word_all, wrote_kept}
 use Rattle.lines.proofs.print.word.Given as goal
 
 abbrev pub invariant-loop-i : goal.invariant-loop-i

@@ -1,8 +1,5 @@
 -- `sheet::checks::add_up` meets its contract. The loop's invariant: what is left stands to the lengths from i on as n to all of them. Assumes nothing.
-use mathlib.Core.Path.{◌≡◌}
-use Prim.Native.Nat.{◌+◌, ◌-◌, ◌≤◌}
 use native.Mathlib.Omega.{arith}
-use lib.ListN.{length, drop}
 use Rattle.meaning.specs.Night.{sum}
 use Rattle.laws.specs.Sums.{sum_from, sum_end}
 use Rattle.sheet.proofs.CheckLaws.{adds_not, adds_as}

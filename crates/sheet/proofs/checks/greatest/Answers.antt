@@ -1,10 +1,5 @@
 -- `sheet::checks::greatest` meets its contract. The loop's invariant: the greatest so far, and of the row from i on, is that of the row. Assumes nothing.
-use mathlib.Core.Path.{◌≡◌}
-use Prim.Native.Nat.{◌-◌, ◌≤◌, max}
 use native.Mathlib.Omega.{arith}
-use lib.ListN.{length, drop}
-use borrow.Author.Rules.{rules}
-use Rattle.meaning.specs.Night.{greatest}
 use Rattle.laws.specs.Sums.{greatest_from, greatest_end}
 use Rattle.sheet.proofs.checks.greatest.Goals as goal
 

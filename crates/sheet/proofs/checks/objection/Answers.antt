@@ -1,8 +1,6 @@
 -- `sheet::checks::objection` meets its contract. Assumes nothing.
 use Rattle.std.proofs.Common.{◌≡◌, ℕ, Bool, true, eqb, sym, ◌∙◌, inl, inr, arith}
-use borrow.Author.Rules.{rules}
-use borrow.Author.Tests.{eqb-true, eqb-false, not-true, not-false}
-use Rattle.meaning.specs.Night.{sum}
+use borrow.Author.Tests.{eqb-true, eqb-false}
 use Rattle.sheet.specs.Checks.{to_lengths, to_marks, to_last, to_nothing}
 use Rattle.sheet.proofs.checks.objection.Goals as goal
 

@@ -1,5 +1,5 @@
 -- `sheet::make::complete` meets its contract. Assumes nothing.
-use Rattle.std.proofs.Common.{◌≡◌, sym, ◌∙◌, arith, length, take, length-take}
+use Rattle.std.proofs.Common.{◌≡◌, sym, ◌∙◌, arith, length, length-take}
 use Rattle.laws.specs.Nights.{night_lengths, length_reports}
 use Rattle.sheet.specs.Answers.{number_of}
 use Rattle.sheet.proofs.Making.{right_lengths, each_last, objected, completed}

@@ -2,7 +2,6 @@
 use Rattle.std.proofs.Common.{◌≤◌, List, ℕ, inl, inr, arith, length}
 use Rattle.meaning.specs.Limits.{pattern_limit, night_cells, sheet_bytes}
 use Rattle.meaning.specs.Sheet.{SheetLent, long_pattern, little_lent, refused}
-use Rattle.pattern.specs.Answers.{rows_of}
 use Rattle.pattern.specs.declared.Reading.TheVariants as reading
 use Rattle.pattern.proofs.Held.{held}
 use Rattle.tree.proofs.Searching.{given_of, gives, some_node, refused_as}

@@ -1,9 +1,9 @@
 -- `sheet::table::apply` meets its contract. Assumes nothing.
-use Rattle.std.proofs.Common.{◌≡◌, ◌∙◌, ◌<◌, List, refl, ap, arith, length, get_or, set}
+use Rattle.std.proofs.Common.{◌∙◌, ◌<◌, List, refl, ap, arith, length, get_or, set}
 use Rattle.meaning.specs.declared.Record.{Record}
 use Rattle.sheet.specs.Figures.{figured}
 use Rattle.sheet.proofs.Figured.{blank}
-use Rattle.sheet.proofs.Fronts.{length_front, front_next, front_all}
+use Rattle.sheet.proofs.Fronts.{front_next, front_all}
 use Rattle.sheet.proofs.table.apply.Goals as goal
 
 pub loop-i-init : goal.loop-i-init

@@ -1,13 +1,10 @@
 -- `sheet::text::each_change` meets its contract. Assumes nothing.
-use mathlib.Core.List.{List, []}
+use mathlib.Core.List.{List}
 use Prim.Native.Nat.{ℕ, ◌+◌, ◌*◌, ◌-◌, ◌≤◌}
 use lib.ListN.{length, take}
-use borrow.Author.Rules.{rules}
 use Rattle.meaning.specs.Sheet.{change_lines}
 use Rattle.lines.specs.Wrote.{Wrote}
-use Rattle.lines.proofs.WroteLaws.{wrote_none, wrote_kept}
 use Rattle.sheet.specs.Figures.{records_from}
-use Rattle.sheet.proofs.TextLaws.{wrote_same, wrote_more, changes_more, changes_all}
 use Rattle.sheet.proofs.text.each_change.Given as goal
 
 abbrev pub invariant-loop-i : goal.invariant-loop-i

@@ -1,12 +1,8 @@
 -- `sheet::text::each_line` meets its contract. Assumes nothing.
 use Prim.Native.Nat.{◌+◌, ◌*◌, ◌-◌, ◌≤◌}
-use native.Mathlib.Omega.{arith}
 use lib.ListN.{length, take}
-use borrow.Author.Rules.{rules}
 use Rattle.meaning.specs.Sheet.{lines}
 use Rattle.lines.specs.Wrote.{Wrote}
-use Rattle.lines.proofs.WroteLaws.{wrote_none, wrote_kept}
-use Rattle.sheet.proofs.TextLaws.{wrote_same, wrote_more, lines_more, lines_all}
 use Rattle.sheet.proofs.text.each_line.Given as goal
 
 abbrev pub invariant-loop-i : goal.invariant-loop-i

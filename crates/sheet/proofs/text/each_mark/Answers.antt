@@ -1,8 +1,6 @@
 -- `sheet::text::each_mark` meets its contract. Assumes nothing.
-use Prim.Native.Nat.{◌+◌, ◌*◌, ◌-◌, ◌≤◌}
 use borrow.Author.Rules.{rules}
 use Rattle.meaning.specs.Sheet.{mark_lines}
-use Rattle.lines.specs.Wrote.{Wrote}
 use Rattle.lines.proofs.WroteLaws.{wrote_none, wrote_kept}
 use Rattle.sheet.specs.Figures.{records_from}
 use Rattle.sheet.proofs.TextLaws.{wrote_same, wrote_more, marks_more, marks_all}

@@ -1,6 +1,5 @@
 -- `sheet::text::line` meets its contract. Assumes nothing.
 use native.Mathlib.Omega.{arith}
-use borrow.Author.Rules.{rules}
 use Rattle.laws.specs.Digits.{digits_length}
 use Rattle.lines.proofs.WroteLaws.{wrote_then}
 use Rattle.sheet.proofs.text.line.Goals as goal

@@ -1,5 +1,4 @@
 -- `sheet::text::text` meets its contract. Assumes nothing.
-use borrow.Author.Rules.{rules}
 use Rattle.sheet.proofs.TextLaws.{wrote_sheet}
 use Rattle.sheet.proofs.text.text.Goals as goal
 

@@ -1,6 +1,5 @@
 -- `tree::first_tree::first_tree` meets its contract. Assumes nothing.
 use Rattle.tree.proofs.Answers.{answered_as}
-use borrow.Author.Rules.{rules}
 use Rattle.tree.proofs.first_tree.first_tree.Goals as goal
 
 pub returns : goal.returns

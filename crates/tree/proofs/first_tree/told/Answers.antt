@@ -1,6 +1,5 @@
 -- `tree::first_tree::told` meets its contract. Assumes nothing.
 use mathlib.Core.Path.{sym, ◌∙◌}
-use borrow.Author.Rules.{rules}
 use Rattle.tree.proofs.Answers.{tells_long, tells_held, tells_refusal}
 use Rattle.tree.proofs.first_tree.told.Goals as goal
 

@@ -1,6 +1,6 @@
 -- `tree::judge::judge` meets its contract. Where the root is open, a tree exists; it is written at once, or measured first. Assumes nothing.
-use Rattle.std.proofs.Common.{◌≡◌, ◌∙◌, ℕ, Bool, true, false, List, sym, ap, arith, length}
-use Rattle.positions.specs.Theorem.{found, first_row}
+use Rattle.std.proofs.Common.{◌∙◌, sym, ap, arith}
+use Rattle.positions.specs.Theorem.{first_row}
 use Rattle.sets.specs.declared.set.Set.{Set}
 use Rattle.sets.specs.Members.{has}
 use Rattle.passes.specs.Ways.{readable}

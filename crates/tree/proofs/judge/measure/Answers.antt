@@ -1,5 +1,4 @@
 -- `tree::judge::measure` meets its contract. Assumes nothing.
-use borrow.Author.Rules.{rules}
 use Rattle.tree.proofs.judge.measure.Goals as goal
 
 pub returns : goal.returns

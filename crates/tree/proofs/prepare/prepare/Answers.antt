@@ -1,5 +1,5 @@
 -- `tree::prepare::prepare` meets its contract. Assumes nothing.
-use Rattle.std.proofs.Common.{rules, ap, arith, length}
+use Rattle.std.proofs.Common.{rules, ap, length}
 use Rattle.sets.specs.Members.{rows}
 use Rattle.tree.proofs.Finding.{prepared}
 use Rattle.tree.proofs.prepare.prepare.Goals as goal

@@ -1,7 +1,6 @@
 -- `tree::room::to_lend` meets its contract. Assumes nothing.
 use native.Mathlib.Omega.{arith}
 use Rattle.tree.specs.Lending.{long_text, over_marks, enough}
-use borrow.Author.Rules.{rules}
 use Rattle.tree.proofs.room.to_lend.Goals as goal
 
 -- `tree::room::to_lend` meets its contract. Assumes nothing.

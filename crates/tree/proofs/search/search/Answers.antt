@@ -1,8 +1,7 @@
 -- `tree::search::search` meets its contract. Assumes nothing.
 use Rattle.std.proofs.Common.{arith}
-use Rattle.pattern.specs.Answers.{rows_of}
 use Rattle.pattern.specs.declared.Reading.TheVariants as reading
-use Rattle.pattern.proofs.Held.{Held, held, too_long}
+use Rattle.pattern.proofs.Held.{held, too_long}
 use Rattle.tree.specs.Search.{long_pattern, long_text, few_cells}
 use Rattle.tree.proofs.Searching.{ready, gives, some_node, searched, refuses}
 use Rattle.tree.proofs.search.search.Goals as goal
