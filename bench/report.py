@@ -152,7 +152,7 @@ NIGHT = [
 
 
 def about_run(r, before=""):
-    for k in ("date", "machine", "peers", "ours", "way"):
+    for k in ("date", "machine", "peers", "ours", "kit", "way"):
         if k in r.run:
             print(f"{before}{k}: {r.run[k]}")
     print()

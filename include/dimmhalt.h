@@ -1,8 +1,8 @@
 /*
  * Dimmhalt: which tree has a report under a pattern, and is it the only one? And what do the reports of a night come to?
  *
- * Link with the archive libdimmhalt.a, which is for x86-64 Linux; `rt staticlib dimmhalt` proves it, builds it and puts it into
- * target/staticlib/. The calls need no other library, allocate nothing, write nothing but their stack and what is lent to them, keep nothing
+ * Link with the archive libdimmhalt.a, which is for x86-64 Linux; `rt lib`, in crates/dimmhalt, proves it, builds it and puts it into
+ * crates/dimmhalt/out/. The calls need no other library, allocate nothing, write nothing but their stack and what is lent to them, keep nothing
  * from one call to the next, and end on every input. Several threads may call at the same time, each with memory of its own to lend.
  *
  * THE CALLER OWES, for every call, this and nothing else:

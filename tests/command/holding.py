@@ -99,11 +99,6 @@ def has(*parts):
     return lambda output: all(as_bytes(part) in output for part in parts)
 
 
-def one_line(begins, *parts):
-    """Looks at an output: is it one line that begins so and has all of these in it?"""
-    return lambda output: output.startswith(as_bytes(begins)) and output.find(b"\n") == len(output) - 1 and has(*parts)(output)
-
-
 def said(call, number, *figures):
     """The line for an answer that cannot be."""
     named = [f"{name} {figure}" for name, figure in zip(FIGURES[call], figures, strict=True)]

@@ -1,6 +1,6 @@
 """Holds the script dimmhalt: it makes the program when it has to, and runs it.
 
-    python3 tests/command/script.py OBJECT    something for x86-64 that has the calls and answers by DIMMHALT_ANSWER
+    python3 tests/command/script.py OBJECT    something that has the calls and answers by DIMMHALT_ANSWER
 
 A copy of the repository without its proofs is used, and an rt that proves nothing and hands the object over as the archive.
 """
@@ -11,7 +11,7 @@ import shutil
 import sys
 import threading
 
-from holding import ONE_TREE, VERSION, Holder, has, one_line
+from holding import ONE_TREE, VERSION, Holder, has
 from streams import closing
 from turns import listed, no_mark
 
@@ -20,19 +20,30 @@ PROVING = "dimmhalt: proving the calls; the first time this takes some minutes\n
 PROVED = "dimmhalt: meaning proved\n"
 COMPILING = "dimmhalt: compiling the program\n"
 MAKING = PROVING + PROVED + COMPILING
+ASKED = "dimmhalt: lib\n"
+NOT_BUILT = "dimmhalt: the library walks did not build\n"
 NO_RT = "dimmhalt: rt, the Rattle kit's command, is not on the PATH\n"
-TOOLS = "bash sh env cat cp dirname find flock mkdir mktemp mv readlink rm sed sleep sort tail tee touch uname".split()
-COMPILERS = "cc gcc as ld x86_64-linux-gnu-gcc x86_64-linux-gnu-as x86_64-linux-gnu-ld".split()
+NO_COMPILER = "dimmhalt: there is no C compiler, cc, on the PATH\n"
+TOOLS = "bash sh env cat cp dirname find flock mkdir mv readlink rm sed sleep tee touch".split()
+COMPILERS = "cc gcc as ld".split()
 
+# What rt says of a crate that it proves, and of one that it does not.
 RT = """#!/bin/sh
-[ "$1" = staticlib ] || PATH='{path}' exec rt "$@"
-echo "$@" >>{calls}
-echo "rt: meaning proved"
-echo "some more"
+echo "${{PWD##*/crates/}}: $*" >>{calls}
+echo "rt: meaning: begins with what a check kept in elsewhere"
+echo "rt: chose --jobs 2 for meaning"
+echo "fn meaning::record: proved"
+echo "crate meaning: modules loaded=0 checked=12"
+echo "logic=proved functions=1"
 sleep "${{RT_SLEEPS:-0}}"
-[ "${{RT_STATUS:-0}}" = 0 ] || exit "$RT_STATUS"
-mkdir -p target/staticlib
-[ -n "${{RT_NOTHING:-}}" ] || cp {object} target/staticlib/libdimmhalt.a
+if [ "${{RT_STATUS:-0}}" != 0 ]; then
+    echo "crate walks: modules loaded=3 checked=9"
+    echo "logic=not-proved"
+    echo "rt: the library walks did not build" >&2
+    exit "$RT_STATUS"
+fi
+mkdir -p out
+[ -n "${{RT_NOTHING:-}}" ] || cp {object} out/libdimmhalt.a
 """
 
 
@@ -43,17 +54,17 @@ class Copy(Holder):
         super().__init__([])
         self.top = pathlib.Path(self.path("copy"))
         self.words = [str(self.top / "dimmhalt")]
-        (self.top / "tests").mkdir(parents=True)
-        (self.top / "crates" / "meaning").mkdir(parents=True)
-        (self.top / "crates" / "meaning" / "lib.rt").write_text("")
-        for name in ("dimmhalt", "crates.txt", "tests/machine.sh"):
+        for name in ("dimmhalt", "meaning"):
+            (self.top / "crates" / name).mkdir(parents=True)
+            (self.top / "crates" / name / "lib.rt").write_text("")
+        for name in ("dimmhalt", "crates.txt"):
             shutil.copy(TOP / name, self.top / name)
         for name in ("include", "command"):
             shutil.copytree(TOP / name, self.top / name)
         self.programs("tools", TOOLS)
         self.programs("compilers", COMPILERS)
         self.programs("rt", [])
-        self.file("rt/rt", RT.format(path=os.environ["PATH"], calls=self.path("calls"), object=given))
+        self.file("rt/rt", RT.format(calls=self.path("calls"), object=given))
         os.chmod(self.path("rt/rt"), 0o755)
 
     def programs(self, folder, names):
@@ -69,11 +80,12 @@ class Copy(Holder):
     def forget(self):
         """As before the first use."""
         shutil.rmtree(self.top / "target", ignore_errors=True)
+        shutil.rmtree(self.top / "crates" / "dimmhalt" / "out", ignore_errors=True)
         self.file("calls", "")
 
-    def count_calls(self):
+    def calls(self):
         with open(self.path("calls"), encoding="utf-8") as calls:
-            return len(calls.readlines())
+            return calls.read()
 
     def log(self):
         return (self.top / "target" / "command" / "log").read_bytes()
@@ -86,11 +98,19 @@ def hold_making(copy):
     copy.forget()
     copy.hold_done("the first use", copy.call(JUDGED, b"a"), 0, ONE_TREE, MAKING)
     copy.hold_done("the second use", copy.call(JUDGED, b"a"), 0, ONE_TREE)
-    copy.hold("rt was asked once", copy.count_calls(), 1)
+    copy.hold("rt was asked once, where the crate is", copy.calls(), ASKED)
     for name in ("crates/meaning/lib.rt", "crates.txt", "include/dimmhalt.h", "command/judge.c", "command/build"):
         os.utime(copy.top / name)
         copy.hold_done(f"{name} is newer", copy.call(JUDGED, b"a"), 0, ONE_TREE, MAKING)
         copy.hold_done(f"{name} is newer no more", copy.call(JUDGED, b"a"), 0, ONE_TREE)
+    for crate in ("dimmhalt", "meaning"):
+        kept = copy.top / "crates" / crate / "out" / "incremental"
+        kept.mkdir(parents=True, exist_ok=True)
+        (kept / "checked").write_text("")
+    copy.hold_done("what rt keeps is newer", copy.call(JUDGED, b"a"), 0, ONE_TREE)
+    shutil.rmtree(copy.top / "crates" / "dimmhalt" / "out")
+    copy.hold_done("what rt keeps is gone", copy.call(JUDGED, b"a"), 0, ONE_TREE)
+    copy.hold("the archive is kept", (copy.top / "target" / "staticlib" / "libdimmhalt.a").exists(), True)
 
 
 def hold_passing_on(copy):
@@ -135,7 +155,7 @@ def hold_two_at_once(copy):
     copy.hold("runs at once all answer", [(did.status, did.out) for did in done], [(0, ONE_TREE.encode())] * 3)
     waiting = b"dimmhalt: waiting for another run, which makes the program\n"
     copy.hold("one of them makes the program", sorted(did.err for did in done), sorted([MAKING.encode(), waiting, waiting]))
-    copy.hold("rt was asked once by all", copy.count_calls(), 1)
+    copy.hold("rt was asked once by all", copy.calls(), ASKED)
 
 
 def hold_failures(copy):
@@ -143,11 +163,11 @@ def hold_failures(copy):
     copy.forget()
     copy.hold_done("no rt", copy.call(JUDGED, path=("tools", "compilers")), 70, "", NO_RT)
     did = copy.call(JUDGED, changes={"RT_STATUS": "1"})
-    copy.hold_done("a proof that fails", did, 70, "", PROVING + PROVED + "dimmhalt: the calls are not proved; " + says_why)
-    copy.hold("the log has all", has("rt: meaning proved\n", "some more\n")(copy.log()), True)
+    copy.hold_done("a proof that fails", did, 70, "", PROVING + PROVED + NOT_BUILT + "dimmhalt: the calls are not proved; " + says_why)
+    copy.hold("the log has all", has("rt: chose --jobs 2 for meaning\n", "logic=not-proved\n")(copy.log()), True)
     did = copy.call(JUDGED, changes={"RT_NOTHING": "1"})
     copy.hold_done("no archive", did, 70, "", PROVING + PROVED + "dimmhalt: rt wrote no archive of the calls; " + says_why)
-    copy.hold_done("no compiler", copy.call(JUDGED, path=("rt", "tools")), 70, "", one_compiler_missing)
+    copy.hold_done("no compiler", copy.call(JUDGED, path=("rt", "tools")), 70, "", NO_COMPILER)
     copy.hold_done("then all is there", copy.call(JUDGED, b"a"), 0, ONE_TREE, MAKING)
     with open(copy.top / "command" / "judge.c", "a", encoding="utf-8") as source:
         source.write("no C\n")
@@ -155,15 +175,14 @@ def hold_failures(copy):
     copy.hold("the log has the compiler's words", has("judge.c", "error")(copy.log()), True)
     shutil.copy(TOP / "command" / "judge.c", copy.top / "command" / "judge.c")
     copy.forget()
+    (copy.top / "target").mkdir()
+    (copy.top / "target" / "staticlib").write_text("")
+    did = copy.call(JUDGED)
+    copy.hold_done("no folder for the archive", did, 70, "", PROVING + PROVED + "dimmhalt: the archive of the calls could not be kept; " + says_why)
+    copy.forget()
     (copy.top / "target").write_text("")
     copy.hold_done("a target that is no folder", copy.call(JUDGED), 70, "", "dimmhalt: the folder target/command cannot be written\n")
     os.remove(copy.top / "target")
-
-
-def one_compiler_missing(output):
-    """What is said last is that there is no compiler; before it perhaps that one is to be installed."""
-    lines = output.splitlines(keepends=True)
-    return 1 <= len(lines) <= 2 and one_line("dimmhalt: there is no ", "compiler")(lines[-1])
 
 
 def main(given):

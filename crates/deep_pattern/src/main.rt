@@ -2,29 +2,23 @@
 // runs.
 #![tactic(auto)]
 
-use libc::STDOUT_FILENO;
 use pattern::Reading;
+use std::io;
 
-fn show(reading: Reading) {
+fn show(rt: &impl Print, reading: Reading) -> io::Result<()> {
     match reading {
-        Reading::NoPattern(place) => {
-            io::write_all(STDOUT_FILENO, b"no pattern, at ");
-            io::print_decimal(STDOUT_FILENO, place as u64);
-            io::write_all(STDOUT_FILENO, b"\n");
-        }
-        _ => {
-            io::write_all(STDOUT_FILENO, b"another answer\n");
-        }
+        Reading::NoPattern(place) => println!(rt; "no pattern, at {place}"),
+        _ => println!(rt; "another answer"),
     }
 }
 
-fn main() {
+fn main(rt: HostRuntime) -> io::Result<()> {
     let letters =
         b"((((((((((((((((((((((((((((((((((((((((((((((((((((((((((((((((aaaaaaaaaaaaaaaaaaaaaaaaaaaaaaaaaaaaaaaaaaaaaaaaaaaaaaaaaaaaaaaaaaaaaaaaaaaaaaaaaaaaaaaaaaaaaaaaaaaaaaaaaaaaaaaaaaaaaaaaaaaaaaaaaaaaaaaaaaaaaaaaaaaaaaaaaaaaaaaaaaaaaaaaaaaaaaaaaaaaaaaaaaaaaaaaaaaaaaaaaaaaaaaaaaaaaaaaaaaaaaaaaaaaaaaaaaaaaaaaaaaaaaaaaaaaaaaaaaaaaaaaaaaaaaaaaaaaaaaaaaaaaaaaaaaaaaaaaaaaaaaaaaaaaaaaaaaaaaaaaaaaaaaaaaaaaaaaaaaaaaaaaaaaaaaaaaaaaaaaaaaaaaaaaaaaaaaaaaaaaaaaaaaaaaaaaaaaaaaaaaaaaaaaaaaaaaaaaaaaaaaaaaaaaaaaaaaaaaaaaaaaaaaa";
     let parentheses = pattern::read(&[b'('; 512]);
     let first = parentheses.reading;
-    show(first);
+    show(&rt, first)?;
     let groups = pattern::read(letters);
     let second = groups.reading;
-    show(second);
+    show(&rt, second)
 }

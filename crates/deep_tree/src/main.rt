@@ -2,24 +2,23 @@
 // groups, each with a mark, and 256 parts in a row. The first line of each answer is printed; tests/stack says in how much stack it runs.
 #![tactic(auto)]
 
-use libc::STDOUT_FILENO;
+use std::io;
 use tree::first_tree::first_tree;
 use tree::outcome::{Outcome, flag, number, value};
 
-fn spaced(n: usize) {
-    io::write_all(STDOUT_FILENO, b" ");
-    io::print_decimal(STDOUT_FILENO, n as u64);
+fn spaced(rt: &impl Print, n: usize) -> io::Result<()> {
+    print!(rt; " {n}")
 }
 
-fn show(got: Outcome) {
-    io::write_all(STDOUT_FILENO, b"ANSWER");
-    spaced(number(got) as usize);
-    spaced(value(got));
-    spaced(flag(got));
-    io::write_all(STDOUT_FILENO, b"\n");
+fn show(rt: &impl Print, got: Outcome) -> io::Result<()> {
+    print!(rt; "ANSWER")?;
+    spaced(rt, number(got) as usize)?;
+    spaced(rt, value(got))?;
+    spaced(rt, flag(got))?;
+    println!(rt; "")
 }
 
-fn main() {
+fn main(rt: HostRuntime) -> io::Result<()> {
     let letters =
         b"((((((((((((((((((((((((((((((((((((((((((((((((((((((((((((((((aaaaaaaaaaaaaaaaaaaaaaaaaaaaaaaaaaaaaaaaaaaaaaaaaaaaaaaaaaaaaaaaaaaaaaaaaaaaaaaaaaaaaaaaaaaaaaaaaaaaaaaaaaaaaaaaaaaaaaaaaaaaaaaaaaaaaaaaaaaaaaaaaaaaaaaaaaaaaaaaaaaaaaaaaaaaaaaaaaaaaaaaaaaaaaaaaaaaaaaaaaaaaaaaaaaaaaaaaaaaaaaaaaaaaaaaaaaaaaaaaaaaaaaaaaaaaaaaaaaaaaaaaaaaaaaaaaaaaaaaaaaaaaaaaaaaaaaaaaaaaaaaaaaaaaaaaaaaaaaaaaaaaaaaaaaaaaaaaaaaaaaaaaaaaaaaaaaaaaaaaaaaaaaaaaaaaaaaaaaaaaaaaaaaaaaaaaaaaaaaaaaaaaaaaaaaaaaaaaaaaaaaaaaaaaaaaaaaaaaaaaaaaaaa";
     let groups =
@@ -29,7 +28,7 @@ fn main() {
     let text = [b'a'; 4096];
     let mut cells = [0u64; 4097];
     let mut room = [0u16; 12414];
-    show(first_tree(letters, &text, &mut cells, &mut room));
-    show(first_tree(groups, &text, &mut cells, &mut room));
-    show(first_tree(parts, &text, &mut cells, &mut room));
+    show(&rt, first_tree(letters, &text, &mut cells, &mut room))?;
+    show(&rt, first_tree(groups, &text, &mut cells, &mut room))?;
+    show(&rt, first_tree(parts, &text, &mut cells, &mut room))
 }
