@@ -42,7 +42,6 @@ pub extern "C" fn dimmhalt_turns(row: &[u16], mark: u64, out: &mut [u64]) -> u32
     turns_call(row, mark, out)
 }
 
-// Proved by a walk of its code, by hand, since it takes a table of structs.
 #[unsafe(no_mangle)]
 pub extern "C" fn dimmhalt_sheet(
     pattern: &[u8],

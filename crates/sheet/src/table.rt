@@ -1,5 +1,4 @@
-// The table of records. A function over a lent row of structs is proved by a walk of its code, by hand: `apply` is thin, and the covered
-// `figure` decides what becomes of a record.
+// The table of records: `apply` is thin, and `figure` decides what becomes of a record.
 ghost use Rattle.std.specs.Prelude.{◌≡◌};
 ghost use Rattle.sheet.specs.Figures.{figured, each};
 
