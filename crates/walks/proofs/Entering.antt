@@ -20,7 +20,7 @@ use Rattle.walks.specs.declared.step.Step.TheVariants.{Passed, Stopped}
 use Rattle.walks.specs.Steps.{cursor, noted, Wrote, After}
 use Rattle.walks.specs.Enter.{open_to, Ready, Scanned, EntersAt, OnAt, TurnsAt}
 use Rattle.walks.proofs.Parts.{Leaf, leaf_eps, leaf_pos, One, one_branch, one_star, one_plus, one_opt, Two, two_cat, two_alt, one_sizes, two_sizes, leaf, single, double}
-use Rattle.walks.proofs.Written.{wrote_cursor, wrote_none, wrote_put, wrote_also, wrote_then}
+use Rattle.walks.proofs.Written.{wrote_cursor, wrote_none, wrote_put, wrote_also, wrote_then, after_passed, after_stopped}
 use Rattle.walks.proofs.Looks.{goes_is, open_is}
 
 -- ---- what the calls at the parts ask
@@ -169,3 +169,9 @@ module _ {ks gs ns fs : List ℕ} {i from : ℕ} (goal : Set) (pass : Bool) (T :
 
 pub then_noted : {t t' : List ℕ} {c : ℕ} {s r : Step} (w : Bool) (R : Run) → r ≡ noted w s → Wrote t t' c s R → Wrote t t' c r (and_then (run [] pass w) R)
 then_noted w (run ρ o v) n h = rw (or_comm w v) (wrote_also w (run ρ o v) n h)
+
+pub on_passed : {ks gs : List ℕ} {i c : ℕ} {goal : Set} {b w : Bool} {t t' : List ℕ} {s u r : Step} → s ≡ Passed c w → EntersAt ks gs i goal b t t' c u → r ≡ noted w u → OnAt ks gs i goal b t t' s r
+on_passed {w = w} z E n = record { wrote = λ e m p h. after_passed _ z (then_noted w _ n (E.wrote e m p h)) }
+
+pub on_stopped : {ks gs : List ℕ} {i q c : ℕ} {goal : Set} {b w : Bool} {s : Step} (t : List ℕ) → s ≡ Stopped q c w → OnAt ks gs i goal b t t s (Stopped q c w)
+on_stopped t z = record { wrote = λ e m p h. after_stopped t _ z }

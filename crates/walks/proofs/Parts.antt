@@ -126,6 +126,9 @@ held_place s z = leaf_place (leaf (omega arith) s.holds) z s.few
 -- ---- the parts of a node are held, at smaller numbers
 
 module _ {ks gs : List ℕ} {i : ℕ} (s : Held ks gs i) where
+  pub held_above : 2 ≤ get_or ks i 0 → 0 < i
+  held_above k = above k s.holds
+
   abbrev Below : ℕ → Type 0
   Below j = (j < i) × Held ks gs j
 

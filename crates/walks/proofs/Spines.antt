@@ -12,6 +12,10 @@ use Rattle.walks.specs.Tables.{Known, number, EndAt}
 use Rattle.walks.specs.Resume.{Placed, ResumesAt, Rightward, Spine, Holder, from_here, further}
 use Rattle.walks.proofs.Resuming.{end_read, placed_below, placed_right, resumes_right}
 
+-- where counting starts does not matter to a place
+pub placed_zero : {ks gs : List ℕ} {i j from : ℕ} → Placed ks gs i j from → Placed ks gs i j 0
+placed_zero r = record { e = r.e; m = r.m; p = r.p; holds = r.holds; within = r.within; inside = r.inside; few = r.few; room = omega (arith, r.room) }
+
 -- a position that is not in the right part of node i is in the left one, node l
 pub left_end : {ks gs us : List ℕ} {i n j l : ℕ} → n ≡ i → l ≡ get_or gs i 0 → 2 ≤ get_or ks i 0 → get_or ks i 0 ≤ 3 → (Rightward ks gs us n j → ⊥) → j < get_or us l 0
 left_end {gs = gs} {us} {i} {n} {j} e q k k' h =

@@ -1,6 +1,6 @@
 -- Runs one after another: what they write and how they end. Assumes nothing.
 use mathlib.Core.Path.{◌≡◌, refl, ap, ◌∙◌, subst}
-use mathlib.Core.Bool.{Bool, false, ◌||◌, or-false}
+use mathlib.Core.Bool.{Bool, true, false, ◌||◌, or-false}
 use mathlib.Core.List.{List, [], ◌∷◌}
 use Prim.Native.Nat.{ℕ, ◌+◌}
 use native.Mathlib.Nat.{add-zero, add-suc, suc-add, add_assoc}
@@ -52,6 +52,18 @@ wrote_then {t} {t₁} {t₂} {from} {s} {r} (run ρ (at q) w) S h f =
     record { row = g.0 ∙ h.row; step = g.1 }
 
 -- ---- the same by the cases of a step
+
+pub noted_passed : {s : Step} {c : ℕ} {v w : Bool} (more : Bool) → s ≡ Passed c w → v ≡ (w || more) → Passed c v ≡ noted more s
+noted_passed more q e = rw (q, e)
+
+pub noted_stopped : {s : Step} {q c : ℕ} {v w : Bool} (more : Bool) → s ≡ Stopped q c w → v ≡ (w || more) → Stopped q c v ≡ noted more s
+noted_stopped more q e = rw (q, e)
+
+pub or_yes : {w : Bool} (v : Bool) → w ≡ true → w ≡ (w || v)
+or_yes v e = rw e
+
+pub or_no : {w : Bool} (v : Bool) → w ≡ false → v ≡ (w || v)
+or_no v e = rw e
 
 pub after_stopped : {s : Step} {q c : ℕ} {w : Bool} (t : List ℕ) (R : Run) → s ≡ Stopped q c w → After s t t (Stopped q c w) R
 after_stopped t R z = rw z (refl, refl)
