@@ -32,6 +32,7 @@ RT = """#!/bin/sh
 echo "${{PWD##*/crates/}}: $*" >>{calls}
 echo "rt: meaning: begins with what a check kept in elsewhere"
 echo "rt: chose --jobs 2 for meaning"
+echo "rt: rt check --fix-imports removes those imports"
 echo "fn meaning::record: proved"
 echo "crate meaning: modules loaded=0 checked=12"
 echo "logic=proved functions=1"
