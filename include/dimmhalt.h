@@ -73,7 +73,7 @@ typedef char dimmhalt_lengths_have_64_bits[sizeof(size_t) == 8 ? 1 : -1];
  * n bytes under a pattern with so many marks (dimmhalt_read says how many it has), and for some they are just enough: that is proved. The
  * largest that can be asked for are DIMMHALT_MOST_CELLS and DIMMHALT_MOST_ROOM. A sheet always asks for DIMMHALT_MOST_CELLS cells and
  * DIMMHALT_SHEET_BYTES bytes. The stack is measured, not proved: on the deepest patterns that were found, a thread that does nothing but call
- * needed 155 KiB for dimmhalt_verdict and less for the others.
+ * needed 140 KiB for dimmhalt_verdict and less for the others.
  */
 #define DIMMHALT_CELLS(n) ((size_t)(n) + 1)
 #define DIMMHALT_ROOM(marks, n) ((size_t)(n) + 2 * (size_t)(marks) * ((size_t)(n) > 0 ? (size_t)(n) : 1))

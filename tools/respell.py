@@ -1,7 +1,7 @@
 #!/usr/bin/env python3
 """Spells the repository's own definitions and lemmas as the kit does: words in snake case, types in camel case.
 
-    python3 tools/respell.py            at the top, right after the kit's port.py; a second run changes nothing
+    python3 tools/respell.py            at the top, right after the kit's port.py, and only there: see docs/PORT.md
 
 A dash in an own word becomes an underscore, also in a name in camel case that is no type; in a type the dash goes and the next letter is a capital.
 Names that Rattle makes for a goal, names of the libraries and everything outside clauses in src/ stay.
@@ -108,6 +108,8 @@ def spans(text, names):
 
 
 def main():
+    if not any(re.search(r"^use Rattle\..*\.Tie as tie$", open(f).read(), re.M) for f in files("proofs/**/Proof.antt")):
+        sys.exit("respell: this is no repository that the kit's script has just turned: nothing is done")
     names, all_names = declared()
     bad = fall_together(names, all_names)
     for to, olds in sorted(bad.items()):

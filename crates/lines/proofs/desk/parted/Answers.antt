@@ -7,14 +7,6 @@ use Rattle.lines.proofs.desk.parted.Goals as goal
 pub slice_bounds-answered-end : goal.slice_bounds-answered-end
 slice_bounds-answered-end c = omega (arith, length-take c.split-end.result c.args.taken.now)
 
--- LOST part-answered-start
--- part-answered-start : tie.Need-slice-bounds-answered-start
--- part-answered-start c = search rules
-
--- LOST part-answered-end
--- part-answered-end : tie.Need-slice-bounds-answered-end
--- part-answered-end c = search rules
-
 pub returns : goal.returns
 returns c = let taken = c.args.taken.now in
     answer_parted taken c.split-end.result c.least-from.result c.split-end.ensures c.least-from.ensures c.answered.ensures
