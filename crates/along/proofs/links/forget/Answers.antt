@@ -8,7 +8,6 @@ use lib.Seq.{drop-length}
 use borrow.Author.Fill.{fill_none, fill_more}
 use Rattle.along.proofs.links.forget.Goals as goal
 
--- `along::links::forget` meets its contract. The loop's invariant: the first i keys are zero, the others as they came. Assumes nothing.
 -- with all of them zero
 all-zero : {keys : List ℕ} (n : ℕ) {i : ℕ} (keys₀ : List ℕ) → length keys₀ ≡ n → i ≡ n → keys ≡ replicate i 0 ++ drop i keys₀ → keys ≡ replicate n 0
 all-zero n keys₀ l z k =

@@ -1,4 +1,5 @@
 -- `along::walk::walk` meets its contract. The loop's invariant: whatever the root holds, the walk has come along i bytes, and what is kept is
+-- right. Assumes nothing.
 use Prim.Native.Nat.{◌-◌, ◌≤◌}
 use lib.ListN as lists
 use Rattle.meaning.specs.Expression.{Re}

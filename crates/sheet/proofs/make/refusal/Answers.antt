@@ -2,6 +2,5 @@
 use mathlib.Core.Path.{refl}
 use Rattle.sheet.proofs.make.refusal.Goals as goal
 
--- `sheet::make::refusal` meets its contract. Assumes nothing.
 pub returns : goal.returns
 returns c = refl

@@ -3,7 +3,6 @@ use native.Mathlib.Omega.{arith}
 use Rattle.tree.specs.Lending.{long_text, over_marks, enough}
 use Rattle.tree.proofs.room.to_lend.Goals as goal
 
--- `tree::room::to_lend` meets its contract. Assumes nothing.
 pub returns-then-n-gt-TEXT_LIMIT : goal.returns-then-n-gt-TEXT_LIMIT
 returns-then-n-gt-TEXT_LIMIT c = long_text c.if-n-gt-TEXT_LIMIT.true
 

@@ -6,7 +6,6 @@ use Rattle.meaning.specs.ReadPattern.{binary}
 use Rattle.sets.proofs.ClassLaws.{word_class}
 use Rattle.sets.proofs.class.Class.all.Goals as goal
 
--- `sets::class::Class::all` meets its contract. Assumes nothing.
 full : binary 64 (λ j. true) ≡ 18446744073709551615
 unfolding binary
 full = refl

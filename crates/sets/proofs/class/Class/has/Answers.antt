@@ -2,7 +2,6 @@
 use native.Mathlib.Omega.{arith}
 use Rattle.sets.specs.Classes.{among}
 use Rattle.bits.proofs.Bits.{bit_has}
-use borrow.Author.Rules.{rules}
 use Rattle.sets.proofs.class.Class.has.Goals as goal
 
 pub returns : goal.returns

@@ -7,7 +7,6 @@ use Rattle.bits.proofs.Bits.{bit_none}
 use Rattle.sets.proofs.SetLaws.{zero_at}
 use Rattle.sets.proofs.class.Class.none.Goals as goal
 
--- `sets::class::Class::none` meets its contract. Assumes nothing.
 pub returns : goal.returns
 unfolding among
 returns c q = ap (λ (x : ℕ). bit 64 x (q % 64)) (zero_at 4 (q / 64)) ∙ bit_none 64 (q % 64)

@@ -1,11 +1,9 @@
 -- `sets::class::Class::with_range` meets its contract. Assumes nothing.
-use mathlib.Core.Path.{◌≡◌, sym, ap, ◌∙◌}
-use mathlib.Core.Bool.{Bool, ◌&&◌, ◌||◌, or-false, or_assoc}
+use mathlib.Core.Path.{◌≡◌}
+use mathlib.Core.Bool.{◌&&◌, ◌||◌}
 use Prim.Native.Nat.{ℕ, ◌+◌, ◌-◌, ◌≤◌, max}
-use native.Mathlib.Omega.{arith}
-use lib.Dec.{eqb, leb, ltb}
+use lib.Dec.{leb, ltb}
 use Rattle.sets.specs.Classes.{among}
-use Rattle.bits.proofs.Ranges.{range_more, range_end, range_none}
 use Rattle.sets.proofs.class.Class.with_range.Given as goal
 
 abbrev pub invariant-loop-b : goal.invariant-loop-b

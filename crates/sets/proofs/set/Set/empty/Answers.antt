@@ -3,7 +3,6 @@ use Rattle.sets.specs.Members.{has}
 use Rattle.bits.proofs.Bits.{bit_none}
 use Rattle.sets.proofs.set.Set.empty.Goals as goal
 
--- `sets::set::Set::empty` meets its contract. Assumes nothing.
 pub returns : goal.returns
 unfolding has
 returns c = bit_none 64

@@ -5,7 +5,6 @@ use Rattle.sets.specs.Members.{has}
 use Rattle.bits.proofs.Bits.{bit_before, bit_first}
 use Rattle.sets.proofs.set.Set.first.Goals as goal
 
--- `sets::set::Set::first` meets its contract. Assumes nothing.
 pub overflow_cast-result : goal.overflow_cast-result
 overflow_cast-result c = omega (arith, trailing_le 64 c.args.self.bits)
 

@@ -4,7 +4,6 @@ use Rattle.sets.specs.Members.{has, vacant}
 use Rattle.bits.proofs.Bits.{bit_empty}
 use Rattle.sets.proofs.set.Set.is_empty.Goals as goal
 
--- `sets::set::Set::is_empty` meets its contract. Assumes nothing.
 pub returns : goal.returns
 unfolding has vacant
 returns c = bit_empty 64 c.args.self.bits (omega arith)

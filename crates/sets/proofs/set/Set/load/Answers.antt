@@ -4,7 +4,6 @@ use native.Mathlib.Omega.{arith}
 use Rattle.sets.specs.Members.{rows, row}
 use Rattle.sets.proofs.set.Set.load.Goals as goal
 
--- `sets::set::Set::load` meets its contract. Assumes nothing.
 pub offset_bounds-table-p : goal.offset_bounds-table-p
 unfolding rows
 offset_bounds-table-p c = omega arith

@@ -1,5 +1,4 @@
 -- `sets::set::Set::of` meets its contract. Assumes nothing.
-use borrow.Author.Rules.{rules}
 use Rattle.sets.specs.Members.{has}
 use Rattle.bits.proofs.Bits.{bit_shl}
 use Rattle.sets.proofs.set.Set.of.Goals as goal

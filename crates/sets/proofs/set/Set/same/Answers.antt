@@ -8,7 +8,6 @@ use Rattle.sets.specs.Members.{limit, has}
 use Rattle.sets.proofs.SetLaws.{same_set}
 use Rattle.sets.proofs.set.Set.same.Goals as goal
 
--- `sets::set::Set::same` meets its contract. Assumes nothing.
 abbrev bits_of : Set → ℕ
 bits_of s = s.bits
 

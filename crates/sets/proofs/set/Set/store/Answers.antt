@@ -2,14 +2,12 @@
 use mathlib.Core.Path.{ap}
 use Prim.Native.Nat.{ℕ}
 use native.Mathlib.Omega.{arith}
-use borrow.Author.Rules.{rules}
 use lib.ListN.{length-set}
 use lib.Seq.{get_or-set_same, get_or-set_other}
 use Rattle.sets.specs.declared.set.Set.{Set}
 use Rattle.sets.specs.Members.{rows, row}
 use Rattle.sets.proofs.set.Set.store.Goals as goal
 
--- `sets::set::Set::store` meets its contract. Assumes nothing.
 abbrev made : ℕ → Set
 made n = record { bits = n }
 

@@ -1,5 +1,4 @@
 -- `sets::set::Set::with` meets its contract. Assumes nothing.
-use borrow.Author.Rules.{rules}
 use Rattle.sets.specs.Members.{has}
 use Rattle.bits.proofs.Bits.{bit_with}
 use Rattle.sets.proofs.set.Set.with.Goals as goal

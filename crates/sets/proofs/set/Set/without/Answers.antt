@@ -1,5 +1,4 @@
 -- `sets::set::Set::without` meets its contract. Assumes nothing.
-use borrow.Author.Rules.{rules}
 use Rattle.sets.specs.Members.{has}
 use Rattle.bits.proofs.Bits.{bit_without}
 use Rattle.sets.proofs.set.Set.without.Goals as goal
