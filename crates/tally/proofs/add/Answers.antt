@@ -5,14 +5,12 @@ use Rattle.tally.proofs.add.Goals as goal
 
 pub returns-then-longest-m : goal.returns-then-longest-m
 returns-then-longest-m c =
-    let start = c in
-    let a = start.args in
-    let takes = start.requires in
+    let a = c.args in
+    let takes = c.requires in
     added a.turns.now a.bytes.now a.longest.now a.m a.more a.read a.most takes.in_turns takes.in_bytes takes.in_longest (omega arith)
 
 pub returns-else-longest-m : goal.returns-else-longest-m
 returns-else-longest-m c =
-    let start = c in
-    let a = start.args in
-    let takes = start.requires in
+    let a = c.args in
+    let takes = c.requires in
     added_short a.turns.now a.bytes.now a.longest.now a.m a.more a.read a.most takes.in_turns takes.in_bytes (omega arith)

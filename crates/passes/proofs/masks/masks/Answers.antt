@@ -11,9 +11,8 @@ loop-i-init c = (omega arith, brought_none _ _)
 
 pub loop-i-preserved : goal.loop-i-preserved
 loop-i-preserved c =
-    let noted = c in
-    let turn = noted.loop-i in
-    (omega arith, brought_more _ turn.i turn.invariant.1 noted.note.ensures)
+    let turn = c.loop-i in
+    (omega arith, brought_more _ turn.i turn.invariant.1 c.note.ensures)
 
 pub shape_of-mask : goal.shape_of-mask
 unfolding rows
@@ -21,7 +20,6 @@ shape_of-mask c = c.loop-i.invariant.1.same_rows
 
 pub returns : goal.returns
 returns c =
-    let last = c in
-    let positions = last.args.positions in
-    let end : last.loop-i.i ≡ 4 * positions = omega arith in
-    brought_all _ positions (rw end at last.loop-i.invariant.1)
+    let positions = c.args.positions in
+    let end : c.loop-i.i ≡ 4 * positions = omega arith in
+    brought_all _ positions (rw end at c.loop-i.invariant.1)

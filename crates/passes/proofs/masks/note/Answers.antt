@@ -40,11 +40,10 @@ loop-left-smaller c = lowest_less c.loop-left.left (omega arith)
 
 pub loop-left-preserved : goal.loop-left-preserved
 loop-left-preserved c =
-    let stored = c in
-    let turn = stored.loop-left in
-    let asked = stored.args in
-    let kept = stored.store.ensures in
-    let more = noted_more turn.left asked.w (omega arith) (omega arith) asked.q _ _ _ _ stored.load.ensures stored.with.ensures kept in
+    let turn = c.loop-left in
+    let asked = c.args in
+    let kept = c.store.ensures in
+    let more = noted_more turn.left asked.w (omega arith) (omega arith) asked.q _ _ _ _ c.load.ensures c.with.ensures kept in
     (kept.same_rows ∙ turn.invariant.0, omega (arith, lowest_less turn.left (omega arith)), λ b p. more b p ∙ turn.invariant.2 b p)
 
 pub shape_of-mask : goal.shape_of-mask

@@ -15,15 +15,12 @@ store-requires c = omega (arith, c.loop-p.invariant.same_rows)
 
 pub loop-p-smaller : goal.loop-p-smaller
 loop-p-smaller c =
-    let turn = c in
-    let here = turn.loop-p in
-    without_fewer _ _ here.p c.without-left.ensures (here.invariant.least.here turn.loop-p-test.true)
+    let here = c.loop-p in
+    without_fewer _ _ here.p c.without-left.ensures (here.invariant.least.here c.loop-p-test.true)
 
 pub loop-p-preserved : goal.loop-p-preserved
 loop-p-preserved c =
-    let stored = c in
-    let turn = stored in
-    joining_more _ _ _ _ _ turn.loop-p.invariant turn.loop-p-test.true stored.load.ensures stored.with.ensures stored.store.ensures
+    joining_more _ _ _ _ _ c.loop-p.invariant c.loop-p-test.true c.load.ensures c.with.ensures c.store.ensures
     c.without-left.ensures c.first-p-in-loop-p.ensures
 
 pub returns : goal.returns

@@ -12,18 +12,16 @@ loop-q-init c = (c.first-q.ensures, λ k. rw (c.empty-found.ensures k))
 
 pub loop-q-smaller : goal.loop-q-smaller
 loop-q-smaller c =
-    let turn = c in
-    let here = turn.loop-q in
-    without_fewer _ _ here.q c.without-left.ensures (here.invariant.0.here turn.loop-q-test.true)
+    let here = c.loop-q in
+    without_fewer _ _ here.q c.without-left.ensures (here.invariant.0.here c.loop-q-test.true)
 
 pub loop-q-preserved : goal.loop-q-preserved
 loop-q-preserved c =
     let rest = c.without-left in
-    let turn = c in
-    let here = turn.loop-q in (
+    let here = c.loop-q in (
       c.first-q-in-loop-q.ensures,
       λ k.
-          let more = joined_more here.left rest.result here.q (here.invariant.0.here turn.loop-q-test.true) rest.ensures _ k in
+          let more = joined_more here.left rest.result here.q (here.invariant.0.here c.loop-q-test.true) rest.ensures _ k in
           let regrouped = or_assoc (has here.found k) _ _ ∙ ap (λ (t : Bool). has here.found k || t) (sym more) in
           rw (c.union-found.ensures k, c.load-row.ensures) (regrouped ∙ here.invariant.1 k),
     )

@@ -10,17 +10,14 @@ loop-i-init c = (omega arith, omega arith)
 
 pub returns-then-left-length : goal.returns-then-left-length
 returns-then-left-length c =
-    let l = c in
-    let lengths = l.args.lengths.now in
-    adds_not (sum lengths) l.args.n (λ z. omega (arith, z, l.loop-i.invariant.1, sum_from lengths l.loop-i.i (omega arith)))
+    let lengths = c.args.lengths.now in
+    adds_not (sum lengths) c.args.n (λ z. omega (arith, z, c.loop-i.invariant.1, sum_from lengths c.loop-i.i (omega arith)))
 
 pub loop-i-preserved : goal.loop-i-preserved
 loop-i-preserved c =
-    let l = c in
-    (omega arith, omega (arith, l.loop-i.invariant.1, sum_from l.args.lengths.now l.loop-i.i (omega arith)))
+    (omega arith, omega (arith, c.loop-i.invariant.1, sum_from c.args.lengths.now c.loop-i.i (omega arith)))
 
 pub returns : goal.returns
 returns c =
-    let l = c in
-    let lengths = l.args.lengths.now in
-    adds_as (sum lengths) l.args.n l.loop-i.left (omega (arith, l.loop-i.invariant.1, sum_end lengths l.loop-i.i (omega arith)))
+    let lengths = c.args.lengths.now in
+    adds_as (sum lengths) c.args.n c.loop-i.left (omega (arith, c.loop-i.invariant.1, sum_end lengths c.loop-i.i (omega arith)))

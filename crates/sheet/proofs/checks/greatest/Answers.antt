@@ -8,10 +8,8 @@ loop-i-init c = (omega arith, omega arith)
 
 pub loop-i-preserved : goal.loop-i-preserved
 loop-i-preserved c =
-    let l = c in
-    (omega arith, omega (arith, c.greater-most.ensures, l.loop-i.invariant.1, greatest_from l.args.row.now l.loop-i.i (omega arith)))
+    (omega arith, omega (arith, c.greater-most.ensures, c.loop-i.invariant.1, greatest_from c.args.row.now c.loop-i.i (omega arith)))
 
 pub returns : goal.returns
 returns c =
-    let l = c in
-    omega (arith, l.loop-i.invariant.1, greatest_end l.args.row.now l.loop-i.i (omega arith))
+    omega (arith, c.loop-i.invariant.1, greatest_end c.args.row.now c.loop-i.i (omega arith))

@@ -7,21 +7,17 @@ use Rattle.sheet.proofs.table.figure.Goals as goal
 
 pub returns-then-number-ne0 : goal.returns-then-number-ne0
 returns-then-number-ne0 c =
-    let start = c in
-    stays start.args.f start.args.i start.args.r c.number.ensures c.if-number-ne0.true
+    stays c.args.f c.args.i c.args.r c.number.ensures c.if-number-ne0.true
 
 pub returns-then-i-lt64 : goal.returns-then-i-lt64
 returns-then-i-lt64 c =
-    let number = c in
-    let start = number in
-    made_anew start.args.f start.args.i start.args.r number.number.ensures c.if-number-ne0.false
+    made_anew c.args.f c.args.i c.args.r c.number.ensures c.if-number-ne0.false
 
 pub returns : goal.returns
 returns c =
-    let number = c in
-    let args = number.args in
+    let args = c.args in
     let turns : length args.f.turns ≡ 64 = search rules in
     let bytes : length args.f.bytes ≡ 64 = search rules in
     let longest : length args.f.longest ≡ 64 = search rules in
     past_end args.f.turns args.f.bytes args.f.longest args.i (search rules) (search rules) (search rules)
-    ∙ made_anew args.f args.i args.r number.number.ensures c.if-number-ne0.false
+    ∙ made_anew args.f args.i args.r c.number.ensures c.if-number-ne0.false
