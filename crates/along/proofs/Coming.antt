@@ -13,10 +13,7 @@ use Rattle.walks.specs.declared.step.Step.{Step}
 use Rattle.walks.specs.declared.step.Step.TheVariants.{Stopped}
 use Rattle.along.specs.Along.{Along, Came}
 use Rattle.along.proofs.Along.{along_few}
-use Rattle.along.proofs.Standing.{beyond_none, beyond_then}
-
-pub came_here : {e : Re} {txt t : List ℕ} {s : Step} {i : ℕ} → Along e txt t s i → Came e txt t t s s i i
-came_here {t = t} A = record { along = A; later = omega arith; beyond = beyond_none t _ }
+use Rattle.along.proofs.Standing.{beyond_then}
 
 pub came_then : {e : Re} {txt t t₁ t₂ : List ℕ} {s s₁ s₂ : Step} {i i₁ i₂ : ℕ} → Came e txt t t₁ s s₁ i i₁ → Came e txt t₁ t₂ s₁ s₂ i₁ i₂ → Came e txt t t₂ s s₂ i i₂
 came_then C D = record { along = D.along; later = omega (arith, C.later, D.later); beyond = beyond_then _ C.beyond D.beyond D.later }

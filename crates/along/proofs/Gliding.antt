@@ -2,15 +2,13 @@
 use mathlib.Core.Path.{◌≡◌, refl, sym, ap, ◌∙◌}
 use mathlib.Core.Bool.{Bool, ◌&&◌, ◌||◌, true, false}
 use mathlib.Core.List.{List}
-use Prim.Native.Nat.{ℕ, suc, ◌+◌, ◌*◌, ◌-◌, ◌≤◌, ◌<◌}
+use Prim.Native.Nat.{ℕ, suc, ◌+◌, ◌-◌, ◌≤◌, ◌<◌}
 use native.Mathlib.Numerals.{add-one}
 use native.Mathlib.Omega.{arith}
-use lib.Dec.{eqb}
 use lib.ListN.{length, get_or, drop}
 use Rattle.meaning.specs.Expression.{Re, marks, size}
 use Rattle.positions.specs.Alive.{alive, alive_at, alive_in, ended_at}
 use Rattle.positions.specs.Places.{In, inside}
-use Rattle.positions.specs.Positions.{Out, at}
 use Rattle.positions.specs.Room.{spare_most}
 use Rattle.positions.specs.Runs.{Run, row_of, out_of, other_of, resume_run}
 use Rattle.positions.specs.RunWays.{resume_run_room}
@@ -18,35 +16,33 @@ use Rattle.positions.specs.Sets.{follows, Meet, meet, reaches_meet}
 use Rattle.positions.specs.Tests.{reads, reaches}
 use Rattle.bits.specs.Truth.{both}
 use Rattle.sets.specs.declared.set.Set.{Set}
-use Rattle.sets.specs.Members.{has, limit, row, Alike}
+use Rattle.sets.specs.Members.{has, held, limit, row, Alike}
 use Rattle.walks.specs.declared.step.Step.TheVariants.{Stopped}
 use Rattle.walks.specs.Steps.{cursor, step_of}
-use Rattle.along.specs.declared.glide.Stand.{Stand}
+use Rattle.along.specs.declared.links.Link.{Link}
+use Rattle.along.specs.declared.links.Links.{Links}
+use Rattle.along.specs.declared.stand.Stand.{Stand}
 use Rattle.along.specs.Along.{Along, Came}
-use Rattle.along.specs.Glide.{Guided, Recalled, Recalls, stood}
-use Rattle.walks.specs.Tables.{flag}
-use Rattle.along.specs.Links.{LinkAt, PlaceOf, Kept, pool_limit}
+use Rattle.along.specs.Glide.{Guided, Recalled, Recalls}
+use Rattle.along.specs.Links.{Leads, link_at, PlaceOf, Kept, pool_limit}
+use Rattle.along.specs.Stand.{stood}
 use Rattle.along.proofs.Along.{along_more, along_few}
 use Rattle.along.proofs.Coming.{along_room}
 use Rattle.along.proofs.Linking.{kept_link, resume_within}
 use Rattle.along.proofs.Standing.{beyond_less}
-
-flag_back : (w : Bool) → eqb (flag w) 1 ≡ w
-flag_back true = refl
-flag_back false = refl
 
 -- the run towards a goal that is not the last
 abbrev way : Re → ℕ → Set → Run
 way e q goal = resume_run 0 0 e q (has goal) false
 
 -- what a turn of the glide finds: at place p stands the same as those of the goal that may follow
-pub record Turn (cells ts keys : List ℕ) (s : Stand) (goal near : Set) (p : ℕ) : Type 0 where
-  pub goal_is : goal ≡ row cells (s.read + 1)
+pub record Turn (cells : List ℕ) (ts : List Set) (k : Links) (s : Stand) (goal near : Set) (p : ℕ) : Type 0 where
+  pub goal_is : goal ≡ row (held cells) (s.read + 1)
   pub near_is : (q : ℕ) → has near q ≡ (has (row ts s.position) q && has goal q)
   pub place : PlaceOf s.position p
-  pub same : Alike (row keys p) near
+  pub same : Alike (row k.keys p) near
 
-module _ {e : Re} {txt cells ts : List ℕ} (G : Guided e txt cells ts) {t : List ℕ} {s : Stand} (A : Along e txt t (stood s) s.read) where
+module _ {e : Re} {txt cells : List ℕ} {ts : List Set} (G : Guided e txt cells ts) {t : List ℕ} {s : Stand} (A : Along e txt t (stood s) s.read) where
   few : marks e ≤ 127
   few = omega (arith, G.few)
 
@@ -60,7 +56,7 @@ module _ {e : Re} {txt cells ts : List ℕ} (G : Guided e txt cells ts) {t : Lis
   glide_inside = omega (arith, within, G.few_positions)
 
   -- a byte that is not the last
-  module _ {keys : List ℕ} {goal near : Set} {p : ℕ} (T : Turn cells ts keys s goal near p) (h : s.read + 1 < length txt) where
+  module _ {k : Links} {goal near : Set} {p : ℕ} (T : Turn cells ts k s goal near p) (h : s.read + 1 < length txt) where
     near_follows : (q : ℕ) → has near q ≡ (follows 0 e s.position q && has goal q)
     near_follows q = T.near_is q ∙ ap (λ (b : Bool). b && has goal q) (G.follow s.position within q)
 
@@ -80,44 +76,45 @@ module _ {e : Re} {txt cells ts : List ℕ} (G : Guided e txt cells ts) {t : Lis
             let l : has goal q ≡ true = goal_living q ∙ ap (λ (m : ℕ). alive e (drop m txt) q) (add-one s.read) ∙ k in
             (q, near_follows q ∙ rw (i, l) refl)
 
-    module _ {links pool : List ℕ} {used : ℕ} (K : Kept e keys links pool used) where
-      link : LinkAt (way e s.position goal) links pool used p
-      link = kept_link s.position near goal G.fair few near_follows p member.0 K within T.place member.1 T.same
+    module _ (K : Kept e k) where
+      abbrev here : Link
+      here = link_at k.links p
 
-      pub glide_recalls : used ≤ pool_limit → length pool ≡ 1024 → Recalls links pool p s
+      leads : Leads (way e s.position goal) k.pool k.used here
+      leads = kept_link s.position near goal G.fair few near_follows p member.0 K within T.place member.1 T.same
+
+      pub glide_recalls : k.used ≤ pool_limit → length k.pool ≡ 1024 → Recalls here k.pool s
       glide_recalls u n =
-          let here : In 0 e s.position = (omega arith, omega (arith, within)) in
-          let l = resume_run_room 0 0 e s.position (has goal) false here in
-          let led-to = inside (rw link.out at (resume_within 0 0 e s.position (has goal) false here)) in
+          let i : In 0 e s.position = (omega arith, omega (arith, within)) in
+          let l = resume_run_room 0 0 e s.position (has goal) false i in
+          let led-to = inside (rw leads.out at (resume_within 0 0 e s.position (has goal) false i)) in
           let m = spare_most (out_of (way e s.position goal)) (marks e) in
           let r = along_room G.fair G.few G.short A (omega arith) refl in
           record {
-            within = omega (arith, T.place.below, glide_inside);
             inside = omega (arith, led-to.1, G.few_positions);
-            past = omega (arith, link.past);
+            past = omega (arith, leads.past);
             all_tokens = n;
-            room = omega (arith, l, m, link.long_is, r);
+            room = omega (arith, l, m, leads.long_is, r);
             next = omega (arith, G.short);
           }
 
-      led : (o : Out) (w : Bool) → o ≡ at (get_or links (4 * p) 0) → get_or links (4 * p + 3) 0 ≡ flag w
-          → Stopped (get_or links (4 * p) 0) (s.at + 1 + get_or links (4 * p + 2) 0) (s.other || eqb (get_or links (4 * p + 3) 0) 1)
-          ≡ step_of o (s.at + suc (length (row_of (way e s.position goal)))) (s.other || w)
-      led o w x y =
-          let m : s.at + 1 + get_or links (4 * p + 2) 0 ≡ s.at + suc (length (row_of (way e s.position goal))) = omega (arith, link.long_is) in
-          rw (x, y, flag_back w, m) refl
+      led : Stopped here.position (s.at + 1 + here.long) (s.other || here.other)
+          ≡ step_of (out_of (way e s.position goal)) (s.at + suc (length (row_of (way e s.position goal)))) (s.other || other_of (way e s.position goal))
+      led =
+          let m : s.at + 1 + here.long ≡ s.at + suc (length (row_of (way e s.position goal))) = omega (arith, leads.long_is) in
+          rw (leads.out, leads.other, m) refl
 
       -- the byte is read, and its way gone
-      pub glide_came : {t' : List ℕ} {spare : ℕ} {r : Stand} → Recalled links pool p (get_or txt s.read 0) t t' spare s r → spare ≤ length txt - (s.read + 1)
+      pub glide_came : {t' : List ℕ} {spare : ℕ} {r : Stand} → Recalled here k.pool (get_or txt s.read 0) t t' spare s r → spare ≤ length txt - (s.read + 1)
           → Came e txt t t' (stood s) (stood r) s.read r.read
       glide_came {t'} {spare} {r} C l =
           let R = way e s.position goal in
-          let c : r.at ≡ s.at + 1 + get_or links (4 * p + 2) 0 = ap cursor C.step in
+          let c : r.at ≡ s.at + 1 + here.long = ap cursor C.step in
           record {
             along =
                 rw C.read
                 (along_more e G.fair few txt s.read (omega arith) t t' (stood s) (stood r) (has goal) false A refl goal_living (sym (ended_at txt (s.read + 1) h)) C.below
-                (C.row (row_of R) (sym link.long_is) link.row) (C.step ∙ led (out_of R) (other_of R) link.out link.bit));
+                (C.row (row_of R) (sym leads.long_is) leads.row) (C.step ∙ led));
             later = omega (arith, C.read);
             beyond = beyond_less _ C.beyond (omega (arith, C.read));
           }

@@ -38,12 +38,6 @@ beyond_then c B C h = record { same_length = C.same_length ∙ B.same_length; sa
 pub beyond_less : {t t' : List ℕ} {d : ℕ} (c : ℕ) → Beyond t t' c → c ≤ d → Beyond t t' d
 beyond_less c B h = record { same_length = B.same_length; same = λ i k. B.same i (omega arith) }
 
-pub below_none : (t : List ℕ) (c : ℕ) → Below t t c
-below_none t c = record { same_length = refl; same = λ i h. refl }
-
-pub beyond_none : (t : List ℕ) (c : ℕ) → Beyond t t c
-beyond_none t c = record { same_length = refl; same = λ i h. refl }
-
 -- a row before c stays
 pub shows_still : {t t' : List ℕ} {c : ℕ} (a : ℕ) (r : List ℕ) → Shows t a r → Below t t' c → a + length r ≤ c → Shows t' a r
 shows_still a r S B h i k l = B.same (a + i) (omega arith) ∙ S i k (omega (arith, B.same_length))

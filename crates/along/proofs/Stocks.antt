@@ -7,26 +7,32 @@ use native.Mathlib.Omega.{arith}
 use lib.ListN.{length, replicate}
 use Rattle.meaning.specs.Expression.{Re, size}
 use Rattle.grammar.specs.Holds.{Holds}
+use Rattle.kinds.specs.Nodes.{kinds_of, args_of}
+use Rattle.kinds.specs.declared.ReadPattern.{ReadPattern}
 use Rattle.positions.specs.Places.{Within, w_pass, w_at}
 use Rattle.positions.specs.Positions.{Out, pass, at}
 use Rattle.positions.specs.Runs.{Run, row_of, out_of, other_of, resume_run}
 use Rattle.positions.specs.Sets.{follows}
 use Rattle.sets.specs.declared.set.Set.{Set}
-use Rattle.sets.specs.Members.{has, limit, rows}
+use Rattle.sets.specs.Members.{has, limit, none}
 use Rattle.walks.specs.declared.step.Step.{Step}
 use Rattle.walks.specs.Resume.{Placed, ResumesAt}
 use Rattle.walks.specs.Steps.{cursor, step_of, Wrote}
 use Rattle.walks.proofs.Written.{wrote_cursor}
-use Rattle.along.specs.Links.{PlaceOf, Keeps, Linked, Stock, moved, pool_limit, position_of}
+use Rattle.along.specs.declared.links.Links.{Links}
+use Rattle.along.specs.Links.{PlaceOf, Keeps, Linked, Stock, Went, moved, pool_limit, position_of}
 use Rattle.along.specs.Rows.{Below, Laid}
 use Rattle.along.proofs.Copying.{laid_shows}
 use Rattle.along.proofs.Linking.{kept_more, kept_none, resume_within}
 use Rattle.along.proofs.Standing.{written_below, written_shows, shows_wrote, beyond_less}
 
 -- nothing is kept
-pub stock_none : (ks gs : List ℕ) (root : ℕ) (links pool : List ℕ) → length links ≡ 1024 → length pool ≡ 1024 → Stock ks gs root (replicate 256 0) links pool 0
-unfolding rows
-stock_none ks gs root links pool l t = record { all_keys = refl; all_links = l; all_tokens = t; few = omega arith; kept = λ e f m h. kept_none e 256 links pool 0 }
+pub stock_none : (pattern : ReadPattern) (root : ℕ) (k : Links) → k.keys ≡ replicate 256 none → length k.links ≡ 256 → length k.pool ≡ 1024 → k.used ≡ 0 → Stock pattern root k
+stock_none pattern root k z l t u = record { all_keys = ap length z; all_links = l; all_tokens = t; few = omega arith; kept = λ e f m h. rw z (kept_none e 256 k.links k.pool k.used) }
+
+-- the walk on from the root is the way on
+pub went : {pattern : ReadPattern} {root q from : ℕ} {goal : Set} {last : Bool} {t t' : List ℕ} {r : Step} → ResumesAt (kinds_of pattern.node) (args_of pattern.node) root q goal last t t' from r → Went pattern root q goal last t t' from r
+went R = record { wrote = λ e held inside. R.wrote e 0 0 held (omega arith, omega arith) }
 
 moved_step : (o : Out) (from new c : ℕ) (w : Bool) → moved from new (step_of o c w) ≡ step_of o (new + (c - from)) w
 moved_step pass from new c w = refl
@@ -49,58 +55,41 @@ within_position : {p : ℕ} {e : Re} {o : Out} (c : ℕ) (w : Bool) → Within p
 within_position c w w_pass h = omega arith
 within_position c w (w_at i) h = omega (arith, i.1)
 
-pub linked_inside : {ks gs : List ℕ} {root j from : ℕ} → Linked ks gs root j from → j < limit
+pub linked_inside : {pattern : ReadPattern} {root j from : ℕ} → Linked pattern root j from → j < limit
 linked_inside L = omega (arith, L.placed.inside.1, L.few_positions)
 
--- there is room to count in the pool
-pub pool_placed : {ks gs keys links pool : List ℕ} {root used q from : ℕ} → Stock ks gs root keys links pool used → Placed ks gs root q from → Placed ks gs root q used
-pool_placed S P = record {
-  e = P.e;
-  m = P.m;
-  p = P.p;
-  holds = P.holds;
-  within = P.within;
-  inside = P.inside;
-  few = P.few;
-  room = omega (arith, P.few, S.few);
-}
-
 -- a walk on into the pool, from the tokens that are used
-module _ {ks gs keys links pool pool' : List ℕ} {root used q : ℕ} {goal : Set} {last : Bool} {u : Step} (S : Stock ks gs root keys links pool used) {from : ℕ} (P : Placed ks gs root q from)
-    (W : ResumesAt ks gs root q goal last pool pool' used u) where
-  some : Wrote pool pool' used u (resume_run P.m P.p P.e q (has goal) last)
+module _ {pattern : ReadPattern} {pool : List ℕ} {root q : ℕ} {k : Links} {goal : Set} {last : Bool} {u : Step} (S : Stock pattern root k) {from : ℕ} (P : Placed (kinds_of pattern.node) (args_of pattern.node) root q from)
+    (W : ResumesAt (kinds_of pattern.node) (args_of pattern.node) root q goal last k.pool pool k.used u) where
+  some : Wrote k.pool pool k.used u (resume_run P.m P.p P.e q (has goal) last)
   some = W.wrote P.e P.m P.p P.holds P.inside
 
-  below : Below pool pool' used
-  below = written_below pool (row_of (resume_run P.m P.p P.e q (has goal) last)) used some.row
+  below : Below k.pool pool k.used
+  below = written_below k.pool (row_of (resume_run P.m P.p P.e q (has goal) last)) k.used some.row
 
-  pub pool_on : used ≤ cursor u
+  pub pool_on : k.used ≤ cursor u
   pool_on = omega (arith, wrote_cursor some)
 
   -- it stops inside the expression
   pub pool_inside : P.p + size P.e ≤ limit → position_of u < limit
   pool_inside h =
       let R = resume_run P.m P.p P.e q (has goal) last in
-      rw some.step (within_position (used + length (row_of R)) (other_of R) (resume_within P.m P.p P.e q (has goal) last P.inside) h)
+      rw some.step (within_position (k.used + length (row_of R)) (other_of R) (resume_within P.m P.p P.e q (has goal) last P.inside) h)
 
-  pub pool_long : length pool' ≡ 1024
+  pub pool_long : length pool ≡ 1024
   pool_long = below.same_length ∙ S.all_tokens
 
-  -- all is forgotten
-  pub stock_forgot : {keys' : List ℕ} → keys' ≡ replicate 256 0 → Stock ks gs root keys' links pool' 0
-  stock_forgot z = rw z (stock_none ks gs root links pool' S.all_links pool_long)
-
   -- what is written is kept
-  pub stock_more : {keys' links' : List ℕ} {r : Step} {new end s : ℕ} {near : Set} → last ≡ false → end ≡ cursor u → end ≤ pool_limit → PlaceOf q s → q < 64
-      → ((e : Re) → Holds ks gs 0 0 root e → q < size e → (p : ℕ) → has near p ≡ (follows 0 e q p && has goal p)) → Keeps s near used new u r keys keys' links links'
-      → Stock ks gs root keys' links' pool' end
+  pub stock_more : {k' : Links} {r : Step} {new end s : ℕ} {near : Set} → last ≡ false → end ≡ cursor u → end ≤ pool_limit → PlaceOf q s → q < 64
+      → ((e : Re) → Holds (kinds_of pattern.node) (args_of pattern.node) 0 0 root e → q < size e → (p : ℕ) → has near p ≡ (follows 0 e q p && has goal p))
+      → Keeps s near k.used new u r (record { keys = k.keys; links = k.links; pool = pool; used = end }) k' → Stock pattern root k'
   stock_more {s = s} {near} z c h place i n K = record {
     all_keys = K.same_keys ∙ S.all_keys;
     all_links = K.same_links ∙ S.all_links;
-    all_tokens = pool_long;
-    few = h;
+    all_tokens = ap length K.same_pool ∙ pool_long;
+    few = omega (arith, K.same_used);
     kept = λ e f m held.
-        rw c
+        rw (K.same_pool, K.same_used, c)
         (kept_more q near goal f m (n e held) s (S.kept e f m held) place (omega (arith, place.below, S.all_links)) below pool_on
         (λ j. rw z at (W.wrote e 0 0 held (omega arith, omega arith))) K);
   }

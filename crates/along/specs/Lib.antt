@@ -1,5 +1,6 @@
 -- What the contracts of the walk along a text cite.
 pub mod Rows
+pub mod Stand
 pub mod Links
 pub mod Along
 pub mod Glide

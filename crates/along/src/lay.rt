@@ -1,45 +1,38 @@
 // Laying rows: tokens that are kept in the pool are copied into the room for a tree.
-ghost use Rattle.std.specs.Prelude.{◌+◌, ◌≤◌, ◌<◌, ◌^◌, length};
+ghost use Rattle.std.specs.Prelude.{◌≡◌, ◌+◌, ◌≤◌, ◌<◌, ◌^◌, length};
+ghost use Rattle.meaning.specs.Tree.{letter};
 ghost use Rattle.along.specs.Links.{pool_limit};
 ghost use Rattle.along.specs.Rows.{Laid};
 
-// Copies `long` tokens of the pool from `from` on to `at`, as far as they fit.
+use std::simd::Simd;
+
+// The token of a byte.
+pub fn letter(b: u8) -> u16
+    ensures { result ≡ letter b }
+{
+    256 + u16::from(b)
+}
+
+// Copies `long` tokens of the pool from `from` on to `at`, as far as they fit. Not by the library, whose copy is a call: with one in its loop,
+// `glide` keeps its numbers on the stack.
 pub fn copy(pool: &[u16; 1024], from: usize, long: usize, tree: &mut [u16], at: usize)
     requires { (from + long ≤ 1024) × (at + long < 2 ^ 64) }
     ensures { Laid pool.now tree.old tree.new from long at 0 }
 {
-    let mut i = 0;
-    while i < long {
-        let there = at + i;
-        if tree.len() <= there {
-            return;
+    if at < tree.len() {
+        let n = long.min(tree.len() - at);
+        for i in 0..n {
+            tree[at + i] = pool[from + i];
         }
-        tree[there] = pool[from + i];
-        i += 1;
     }
 }
 
-// Copies eight tokens of the pool from `from` on to `at`: all are read before one is written, so that one word of the machine can carry them.
+// Copies eight tokens of the pool from `from` on to `at`, in one word of the machine.
 fn eight(pool: &[u16; 1024], from: usize, tree: &mut [u16], at: usize)
     requires { (from + 8 ≤ 1024) × (at + 8 ≤ length tree.old) }
     ensures { Laid pool.now tree.old tree.new from 8 at 0 }
 {
-    let a = pool[from];
-    let b = pool[from + 1];
-    let c = pool[from + 2];
-    let d = pool[from + 3];
-    let e = pool[from + 4];
-    let f = pool[from + 5];
-    let g = pool[from + 6];
-    let h = pool[from + 7];
-    tree[at] = a;
-    tree[at + 1] = b;
-    tree[at + 2] = c;
-    tree[at + 3] = d;
-    tree[at + 4] = e;
-    tree[at + 5] = f;
-    tree[at + 6] = g;
-    tree[at + 7] = h;
+    Simd::<u16, 8>::from_slice(&pool[from..]).copy_to_slice(&mut tree[at..]);
 }
 
 // Copies as `copy` does, and may spoil the `spare` tokens behind the row: eight tokens at once are faster than a few by one. Where there is
@@ -52,7 +45,5 @@ pub fn lay(pool: &[u16; 1024], from: usize, long: usize, tree: &mut [u16], at: u
         eight(pool, from, tree, at);
         return;
     }
-    if at < tree.len() {
-        copy(pool, from, long, tree, at);
-    }
+    copy(pool, from, long, tree, at);
 }

@@ -4,4 +4,5 @@
 pub mod glide;
 pub mod lay;
 pub mod links;
+pub mod stand;
 pub mod walk;

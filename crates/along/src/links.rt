@@ -1,24 +1,39 @@
 // Links: the ways on from a position that a walk has gone are kept, so that `glide` can go them again. Their rows stand in a pool of their own,
 // so what is kept serves for every text of a pattern.
-ghost use Rattle.std.specs.Prelude.{◌≡◌, ◌+◌, ◌-◌, ◌≤◌, ◌<◌, ◌^◌, length, replicate};
+ghost use Rattle.std.specs.Prelude.{◌≡◌, false, ℕ, ◌+◌, ◌-◌, ◌≤◌, ◌<◌, ◌^◌, length};
+ghost use Rattle.kinds.specs.declared.ReadPattern.{ReadPattern};
 ghost use Rattle.sets.specs.Members.{limit, rows};
 ghost use Rattle.walks.specs.Steps.{cursor};
-ghost use Rattle.walks.specs.Tables.{flag};
-ghost use Rattle.along.specs.Links.{Keeps, Linked, PlaceFor, Stock, Went, pool_limit, position_of};
-ghost use Rattle.walks.specs.Root.{Charted};
+ghost use Rattle.along.specs.Links.{ChartedBy, Keeps, Linked, PlaceFor, Stock, Went, pool_limit, position_of};
 
 use crate::lay::copy;
-use sets::set::Set;
+use crate::stand::Stand;
+use kinds::ReadPattern;
+use sets::set::{LIMIT, Set};
 use walks::resume::resume;
 use walks::step::Step;
+use walks::tables::Tables;
 
 // How many tokens of the pool may be used: from each of them eight can be read at once.
 pub const POOL: usize = 1016;
 
-// Where a way came to, and how many tokens of the pool are used after it.
+// A way on that is kept: before which position it stops, where its row begins in the pool, how long that is, whether another way was open.
+// All fit 16 bits, so the table is small.
 #[derive(Clone, Copy)]
-pub struct Gone {
-    pub step: Step,
+pub struct Link {
+    pub position: u16,
+    pub from: u16,
+    pub long: u16,
+    pub other: bool,
+}
+
+// The ways on that are kept: for each place the goal of the way that is kept there, and the way; their rows, and how many tokens of these are used.
+// The goals stand by themselves, since a glide over one array of both is slower.
+#[derive(Clone, Copy)]
+pub struct Links {
+    pub keys: [Set; 256],
+    pub links: [Link; 256],
+    pub pool: [u16; 1024],
     pub used: usize,
 }
 
@@ -27,114 +42,81 @@ pub fn kept_at(q: usize, goal: Set) -> usize
     requires { q < limit }
     ensures { PlaceFor q goal result }
 {
-    4 * q + goal.first() % 4
+    4 * q + goal.first().unwrap_or(LIMIT) % 4
 }
 
-// A yes as 1.
-fn number(b: bool) -> u16
-    ensures { result ≡ flag b }
-{
-    if b {
-        return 1;
-    }
-    0
-}
-
-// How many tokens are counted.
-fn counted(s: Step) -> usize
-    ensures { result ≡ cursor s }
-{
-    match s {
-        Step::Passed(c, _) => c,
-        Step::Stopped(_, c, _) => c,
-    }
-}
-
-// Keeps at place s where a step to the goal came to, whose row stands in the pool from `from` on, and hands it back as one whose row
-// stands from `at` on. All four numbers fit 16 bits, so the table is small.
-fn keep(
-    keys: &mut [u64; 256],
-    links: &mut [u16; 1024],
-    s: usize,
-    goal: Set,
-    from: usize,
-    u: Step,
-    at: usize,
-) -> Step
-    requires place { (s < 256) × ((from ≤ cursor u) × (at + (cursor u - from) < 2 ^ 64)) }
-    requires sizes { (rows keys.old ≡ 256) × (length links.old ≡ 1024) }
-    requires in_pool { (cursor u ≤ pool_limit) × (position_of u < limit) }
-    ensures { Keeps s goal from at u result keys.old keys.new links.old links.new }
-{
-    match u {
-        Step::Passed(c, w) => Step::Passed(at + (c - from), w),
-        Step::Stopped(q, c, w) => {
-            let k = 4 * s;
-            let bit = number(w);
-            let long = c - from;
-            goal.store(keys, s);
-            links[k] = q as u16;
-            links[k + 1] = from as u16;
-            links[k + 2] = long as u16;
-            links[k + 3] = bit;
-            Step::Stopped(q, at + long, w)
+impl Links {
+    // No way is kept.
+    pub fn empty() -> Links
+        ensures { (pattern : ReadPattern) (root : ℕ) → Stock pattern root result }
+    {
+        Links {
+            keys: [Set::empty(); 256],
+            links: [Link {
+                position: 0,
+                from: 0,
+                long: 0,
+                other: false,
+            }; 256],
+            pool: [0; 1024],
+            used: 0,
         }
     }
-}
 
-// Forgets all that is kept.
-fn forget(keys: &mut [u64; 256])
-    requires { length keys.old ≡ 256 }
-    ensures { keys.new ≡ replicate 256 0 }
-{
-    let mut i = 0;
-    while i < 256 {
-        keys[i] = 0;
-        i += 1;
+    // Keeps at place s where a step to the goal came to, whose row stands in the pool from `from` on, and hands it back as one whose row
+    // stands from `at` on.
+    fn keep(&mut self, s: usize, goal: Set, from: usize, u: Step, at: usize) -> Step
+        requires place { (s < 256) × ((from ≤ cursor u) × (at + (cursor u - from) < 2 ^ 64)) }
+        requires sizes { (rows self.old.keys ≡ 256) × (length self.old.links ≡ 256) }
+        requires in_pool { (cursor u ≤ pool_limit) × (position_of u < limit) }
+        ensures { Keeps s goal from at u result self.old self.new }
+    {
+        match u {
+            Step::Passed(c, w) => Step::Passed(at + (c - from), w),
+            Step::Stopped(q, c, w) => {
+                let long = c - from;
+                self.keys[s] = goal;
+                self.links[s] = Link {
+                    position: q as u16,
+                    from: from as u16,
+                    long: long as u16,
+                    other: w,
+                };
+                Step::Stopped(q, at + long, w)
+            }
+        }
     }
-}
 
-// Goes on from position q, as `resume` does from the root, and keeps the way for the positions of the goal that may follow q: which marks are
-// written depends on them alone. Where the pool has no room for its row, all is forgotten.
-pub fn onward<'a>(
-    kind: &'a [u8; 1024],
-    arg: &'a [u16; 1024],
-    null: &'a [u8; 1024],
-    first: &'a [u64; 1024],
-    upto: &'a [u16; 1024],
-    follow: &[u64; 64],
-    root: usize,
-    q: usize,
-    goal: Set,
-    last: bool,
-    keys: &mut [u64; 256],
-    links: &mut [u16; 1024],
-    pool: &mut [u16; 1024],
-    used: usize,
-    tree: &mut [u16],
-    at: usize,
-) -> Gone
-    requires linked { Linked kind.now arg.now root q at }
-    requires charted { Charted kind.now arg.now null.now first.now upto.now follow.now root }
-    requires stock { Stock kind.now arg.now root keys.old links.old pool.old used }
-    ensures went { Went kind.now arg.now root q goal last tree.old tree.new at result.step }
-    ensures stocked { Stock kind.now arg.now root keys.new links.new pool.new result.used }
-{
-    if last {
-        let step = resume(kind, arg, null, first, upto, root, q, goal, last, tree, at);
-        return Gone { step, used };
+    // Goes on from position q to the goal, as `resume` does from the root, and keeps the way for the positions of the goal that may follow q:
+    // which marks are written depends on them alone. Where the pool has no room for its row, all is forgotten.
+    pub fn onward(
+        &mut self,
+        pattern: &ReadPattern,
+        tables: &Tables,
+        root: usize,
+        q: usize,
+        goal: Set,
+        tree: &mut [u16],
+        at: usize,
+    ) -> Step
+        requires linked { Linked pattern.now root q at }
+        requires charted { ChartedBy tables.now pattern.now root }
+        requires stock { Stock pattern.now root self.old }
+        ensures went { Went pattern.now root q goal false tree.old tree.new at result }
+        ensures stocked { Stock pattern.now root self.new }
+    {
+        let from = self.used;
+        let nodes = &tables.nodes;
+        let u = resume(pattern, nodes, root, q, goal, false, &mut self.pool, from);
+        let end = Stand::after(u, 0).at;
+        if POOL < end {
+            self.keys.fill(Set::empty());
+            self.used = 0;
+            return resume(pattern, nodes, root, q, goal, false, tree, at);
+        }
+        copy(&self.pool, from, end - from, tree, at);
+        self.used = end;
+        let near = tables.follow[q].meet(goal);
+        self.keep(kept_at(q, goal), near, from, u, at)
     }
-    let u = resume(
-        kind, arg, null, first, upto, root, q, goal, last, pool, used,
-    );
-    let end = counted(u);
-    if POOL < end {
-        forget(keys);
-        let step = resume(kind, arg, null, first, upto, root, q, goal, last, tree, at);
-        return Gone { step, used: 0 };
-    }
-    copy(pool, used, end - used, tree, at);
-    let near = Set::load(follow, q).meet(goal);
-    let step = keep(keys, links, kept_at(q, goal), near, used, u, at);
-    Gone { step, used: end }
 }

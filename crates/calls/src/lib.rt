@@ -2,7 +2,7 @@
 // the answer at the front of `out`, as far as that is long.
 #![tactic(auto)]
 
-ghost use Rattle.std.specs.Prelude.{◌≡◌, [], ◌∷◌, set};
+ghost use Rattle.std.specs.Prelude.{◌≡◌, [], ◌∷◌};
 ghost use Rattle.meaning.specs.Calls.{in_front, FirstTreeCall, ReadCall, TurnsCall};
 ghost use Rattle.sheet.specs.Answers.{number_of, value_of};
 
@@ -12,23 +12,12 @@ use sheet::figures::Answer;
 use tree::first_tree::first_tree;
 use tree::outcome;
 
-// One figure, if `out` is as long.
-fn put(out: &mut [u64], at: usize, figure: u64)
-    ensures { out.new ≡ set out.old at figure }
-{
-    if at < out.len() {
-        out[at] = figure;
-    }
-}
-
+// The figures that fit, at the front.
 fn tell(out: &mut [u64], figures: &[u64])
     ensures { out.new ≡ in_front figures.now out.old }
 {
-    let mut i = 0;
-    while i < figures.len() {
-        put(out, i, figures[i]);
-        i += 1;
-    }
+    let n = figures.len().min(out.len());
+    out[..n].copy_from_slice(&figures[..n]);
 }
 
 pub fn first_tree_call(
@@ -47,16 +36,18 @@ pub fn first_tree_call(
     outcome::number(got)
 }
 
+#[tactic(auto, unfolding(meaning::specs::ReadPattern::no_parts))]
 pub fn read_call(pattern: &[u8], out: &mut [u64]) -> u32
     ensures { ReadCall pattern.now out.old result out.new }
 {
     let got = read(pattern);
-    let reading = got.reading;
-    let value = pattern::value(reading) as u64;
-    let positions = got.pattern.positions as u64;
-    let marks = got.pattern.marks as u64;
+    let (positions, marks) = match &got {
+        Ok(parts) => (parts.positions as u64, parts.marks as u64),
+        Err(_) => (0, 0),
+    };
+    let value = pattern::value(&got) as u64;
     tell(out, &[value, positions, marks]);
-    pattern::number(reading)
+    pattern::number(&got)
 }
 
 pub fn turns_call(row: &[u16], mark: u64, out: &mut [u64]) -> u32

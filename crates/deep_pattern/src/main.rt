@@ -2,12 +2,12 @@
 // runs.
 #![tactic(auto)]
 
-use pattern::Reading;
+use pattern::{ReadPattern, Refusal};
 use std::io;
 
-fn show(rt: &impl Print, reading: Reading) -> io::Result<()> {
+fn show(rt: &impl Print, reading: &Result<ReadPattern, Refusal>) -> io::Result<()> {
     match reading {
-        Reading::NoPattern(place) => println!(rt; "no pattern, at {place}"),
+        Err(Refusal::NoPattern(place)) => println!(rt; "no pattern, at {place}"),
         _ => println!(rt; "another answer"),
     }
 }
@@ -15,10 +15,6 @@ fn show(rt: &impl Print, reading: Reading) -> io::Result<()> {
 fn main(rt: HostRuntime) -> io::Result<()> {
     let letters =
         b"((((((((((((((((((((((((((((((((((((((((((((((((((((((((((((((((aaaaaaaaaaaaaaaaaaaaaaaaaaaaaaaaaaaaaaaaaaaaaaaaaaaaaaaaaaaaaaaaaaaaaaaaaaaaaaaaaaaaaaaaaaaaaaaaaaaaaaaaaaaaaaaaaaaaaaaaaaaaaaaaaaaaaaaaaaaaaaaaaaaaaaaaaaaaaaaaaaaaaaaaaaaaaaaaaaaaaaaaaaaaaaaaaaaaaaaaaaaaaaaaaaaaaaaaaaaaaaaaaaaaaaaaaaaaaaaaaaaaaaaaaaaaaaaaaaaaaaaaaaaaaaaaaaaaaaaaaaaaaaaaaaaaaaaaaaaaaaaaaaaaaaaaaaaaaaaaaaaaaaaaaaaaaaaaaaaaaaaaaaaaaaaaaaaaaaaaaaaaaaaaaaaaaaaaaaaaaaaaaaaaaaaaaaaaaaaaaaaaaaaaaaaaaaaaaaaaaaaaaaaaaaaaaaaaaaaaaaaaaaaa";
-    let parentheses = pattern::read(&[b'('; 512]);
-    let first = parentheses.reading;
-    show(&rt, first)?;
-    let groups = pattern::read(letters);
-    let second = groups.reading;
-    show(&rt, second)
+    show(&rt, &pattern::read(&[b'('; 512]))?;
+    show(&rt, &pattern::read(letters))
 }

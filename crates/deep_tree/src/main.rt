@@ -6,16 +6,8 @@ use std::io;
 use tree::first_tree::first_tree;
 use tree::outcome::{Outcome, flag, number, value};
 
-fn spaced(rt: &impl Print, n: usize) -> io::Result<()> {
-    print!(rt; " {n}")
-}
-
 fn show(rt: &impl Print, got: Outcome) -> io::Result<()> {
-    print!(rt; "ANSWER")?;
-    spaced(rt, number(got) as usize)?;
-    spaced(rt, value(got))?;
-    spaced(rt, flag(got))?;
-    println!(rt; "")
+    println!(rt; "ANSWER {} {} {}", number(got), value(got), flag(got))
 }
 
 fn main(rt: HostRuntime) -> io::Result<()> {

@@ -12,10 +12,7 @@ fn read_full(from: &mut impl Read, buf: &mut [u8]) -> io::Result<usize>
     ensures { IfOk result (λ n. n ≤ length buf.new) }
 {
     let mut done = 0;
-    for _ in 0..u64::MAX {
-        if done >= buf.len() {
-            break;
-        }
+    while done < buf.len() {
         let n = from.read(&mut buf[done..])?;
         if n == 0 {
             break;

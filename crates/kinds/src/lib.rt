@@ -1,19 +1,65 @@
-// The kinds of nodes of a read pattern, in the numbers of `meaning`: a node without parts is an eps or a pos, one with two parts a cat or an
-// alt; the others have one part and a mark.
+// A read pattern, as a row of nodes.
 #![tactic(auto)]
 
-pub const EPS: u8 = 0;
+ghost use Rattle.std.specs.Prelude.{◌≡◌, ◌≤◌, replicate};
+ghost use Rattle.kinds.specs.Nodes.{kind_of, arg_of, kinds_of, args_of};
 
-pub const POS: u8 = 1;
+// A node of a read pattern: a node without parts is an eps or a pos, one with two parts a cat or an alt; the others have one part. Beside it stands
+// a number: the position, the node of the left part, or the mark. The other part is the node before.
+#[derive(Clone, Copy, PartialEq, Eq)]
+pub enum Node {
+    Eps,
+    Pos(u16),
+    Cat(u16),
+    Alt(u16),
+    Branch(u16),
+    Star(u16),
+    Plus(u16),
+    Opt(u16),
+}
 
-pub const CAT: u8 = 2;
+impl Node {
+    // The same node with this mark; a node without a mark stays as it is.
+    pub fn with_mark(self, mark: u16) -> Node
+        ensures kind { kind_of result ≡ kind_of self }
+        ensures arg { 4 ≤ kind_of self → arg_of result ≡ mark }
+    {
+        match self {
+            Node::Branch(_) => Node::Branch(mark),
+            Node::Star(_) => Node::Star(mark),
+            Node::Plus(_) => Node::Plus(mark),
+            Node::Opt(_) => Node::Opt(mark),
+            _ => self,
+        }
+    }
+}
 
-pub const ALT: u8 = 3;
+// The class of position q is class[4 * q] to class[4 * q + 3].
+#[derive(Clone, Copy)]
+pub struct ReadPattern {
+    pub node: [Node; 1024],
+    pub class: [u64; 256],
+    pub nodes: usize,
+    pub positions: usize,
+    pub marks: usize,
+}
 
-pub const BRANCH: u8 = 4;
-
-pub const STAR: u8 = 5;
-
-pub const PLUS: u8 = 6;
-
-pub const OPT: u8 = 7;
+impl ReadPattern {
+    // Rows of zeros, and no nodes.
+    pub fn blank() -> ReadPattern
+        ensures kinds { kinds_of result.node ≡ replicate 1024 0 }
+        ensures args { args_of result.node ≡ replicate 1024 0 }
+        ensures classes { result.class ≡ replicate 256 0 }
+        ensures nodes { result.nodes ≡ 0 }
+        ensures positions { result.positions ≡ 0 }
+        ensures marks { result.marks ≡ 0 }
+    {
+        ReadPattern {
+            node: [Node::Eps; 1024],
+            class: [0; 256],
+            nodes: 0,
+            positions: 0,
+            marks: 0,
+        }
+    }
+}

@@ -11,6 +11,10 @@ use borrow.Author.Tests.{leb-true, leb-false}
 use Rattle.meaning.specs.Expression.{Re}
 use Rattle.meaning.specs.Promise.{Answered, Judged}
 use Rattle.meaning.specs.Desk.{Desk, desk_lines, desk_cells, desk_tokens, input_limit, pattern_in, text_in}
+use Rattle.std.specs.Prelude.{Ok, Err}
+use Rattle.tree.specs.Outcome.{Outcome, number_of, value_of, flag_of}
+use Rattle.tree.specs.declared.outcome.Tree.{Tree}
+use Rattle.tree.proofs.Answers.{refusal_some}
 use Rattle.grammar.specs.ReadPromise.{refused_range}
 use Rattle.laws.specs.Promises.{desk_one}
 use Rattle.lines.specs.Wrote.{Wrote, longest}
@@ -25,21 +29,27 @@ judged_room (Judged.no_tree none place) z = absurd (omega arith)
 judged_room (Judged.small_room first long) z = absurd (omega arith)
 judged_room {room} (Judged.tree {row} first fits flag) z = rw length-append (omega arith)
 
-pub answered_room : {pat text cells room cells' room' : List ℕ} {n v f : ℕ} → Answered pat text cells room n v f cells' room' → n ≡ 0 → v ≤ length room'
+answered_room : {pat text cells room cells' room' : List ℕ} {n v f : ℕ} → Answered pat text cells room n v f cells' room' → n ≡ 0 → v ≤ length room'
 answered_room (Answered.long_pattern h) z = absurd (omega arith)
 answered_room (Answered.long_text h h') z = absurd (omega arith)
 answered_room (Answered.few_cells h h' h'') z = absurd (omega arith)
 answered_room (Answered.refused ready why) z = absurd (omega (arith, refused_range why))
 answered_room (Answered.judged ready ok j) z = judged_room j z
 
+pub tree_fits : (o : Outcome) {tree : Tree} {pat text cells room cells' room' : List ℕ} → Answered pat text cells room (number_of o) (value_of o) (flag_of o) cells' room'
+    → o ≡ Ok tree → tree.length ≤ length room'
+tree_fits o a e = answered_room (rw e at a) refl
+
+-- an answer of another number has no tree
+pub no_tree : (o : Outcome) → ((tree : Tree) → o ≡ Ok tree → ⊥) → number_of o ≡ 0 → ⊥
+no_tree (Ok tree) n = absurd (n tree refl)
+no_tree (Err why) n = refusal_some why
+
 -- ---- the lines of an answer
 
-module _ {pat text cells room : List ℕ} {n v f n' v' : ℕ} (a : Answered pat text (replicate desk_cells 0) (replicate desk_tokens 0) n v f cells room) (p : n' ≡ n) (q : v' ≡ v) where
-  pub answer_fits : n' ≡ 0 → v' ≤ length room
-  answer_fits z = rw q (answered_room a (sym p ∙ z))
-
-  pub answer_of : {t t' : List ℕ} {f' r : ℕ} → f' ≡ f → Wrote t 0 (desk_lines n' v' f' (take v' room)) t' r → r ≤ longest → Answer pat text t t' r
-  answer_of s w b = record { n = n; v = v; f = f; cells = cells; room = room; answered = a; wrote = rw (p, q, s) at w; short = b }
+pub answer_of : {pat text cells room t t' : List ℕ} {n v f r : ℕ} → Answered pat text (replicate desk_cells 0) (replicate desk_tokens 0) n v f cells room
+    → Wrote t 0 (desk_lines n v f (take v room)) t' r → r ≤ longest → Answer pat text t t' r
+answer_of {cells} {room} {n} {v} {f} a w b = record { n = n; v = v; f = f; cells = cells; room = room; answered = a; wrote = w; short = b }
 
 -- ---- the parts of an input
 

@@ -1,72 +1,45 @@
--- Where an input parts, and how a line and a word agree so far. Assumes nothing.
+-- Where an input parts, and how a line and a word agree. Assumes nothing.
 use mathlib.Core.Path.{◌≡◌, refl, sym, ap, ◌∙◌}
 use mathlib.Core.Bool.{Bool, true, false}
-use mathlib.Core.List.{List, ◌++◌, append-nil}
-use Prim.Native.Nat.{ℕ, suc, ◌+◌, ◌≤◌, ◌<◌}
+use mathlib.Core.List.{List, [], ◌∷◌}
+use Prim.Native.Nat.{ℕ, zero, suc, ◌≤◌, ◌<◌}
 use native.Mathlib.Numerals.{add-one}
 use native.Mathlib.Omega.{arith}
-use lib.ListN.{length, take, drop, get_or, length-take, drop_of_length-le}
-use lib.Seq.{take-suc, drop-cons, append_snoc, take-length, get_or-take}
-use borrow.Author.Tests.{eq-eqb, ne_eqb}
+use lib.ListN.{length, take, get_or, length-take}
+use borrow.Author.Tests.{ne_eqb}
 use Rattle.meaning.specs.Desk.{pattern_in, text_in}
 use Rattle.lines.specs.Parts.{Split, Said, Headed}
 
 -- ---- the first byte 10
 
--- no byte 10 stands before i
-pub record Ahead (s : List ℕ) (i : ℕ) : Type 0 where
-  pub within : i ≤ length s
-  pub before : pattern_in s ≡ take i s ++ pattern_in (drop i s)
-  pub behind : text_in s ≡ text_in (drop i s)
+split_here : (s : List ℕ) → Split (10 ∷ s) 0
+unfolding pattern_in text_in
+split_here s = record { within = omega arith; before = refl; behind = refl }
 
-pub ahead_none : (s : List ℕ) → Ahead s 0
-ahead_none s = record { within = omega arith; before = refl; behind = refl }
+split_past : (b : ℕ) (s : List ℕ) (i : ℕ) → (b ≡ 10 → ⊥) → Split s i → Split (b ∷ s) (suc i)
+unfolding pattern_in text_in
+split_past b s i n p =
+    record {
+      within = omega (arith, p.within);
+      before = rw (ne_eqb b 10 n) (ap (λ (l : List ℕ). b ∷ l) p.before);
+      behind = rw (ne_eqb b 10 n, add-one) (rw add-one at p.behind);
+    }
 
-module _ (s : List ℕ) (i : ℕ) (a : Ahead s i) where
-  pub ahead_more : i < length s → (get_or s i 0 ≡ 10 → ⊥) → Ahead s (i + 1)
-  unfolding pattern_in text_in
-  ahead_more h n = rw add-one record {
-    within = h;
-    before = a.before ∙ (rw (drop-cons s i 0 h, ne_eqb (get_or s i 0) 10 n, take-suc s i 0 h) (sym (append_snoc (take i s) (get_or s i 0) (pattern_in (drop (suc i) s)))));
-    behind = a.behind ∙ (rw (drop-cons s i 0 h, ne_eqb (get_or s i 0) 10 n));
-  }
-
-  pub ahead_here : i < length s → get_or s i 0 ≡ 10 → Split s i
-  unfolding pattern_in text_in
-  ahead_here h e = record {
-    within = a.within;
-    before = a.before ∙ (rw (drop-cons s i 0 h, eq-eqb (get_or s i 0) 10 e) (append-nil (take i s)));
-    behind = a.behind ∙ (rw (drop-cons s i 0 h, eq-eqb (get_or s i 0) 10 e, add-one));
-  }
-
-  pub ahead_end : length s ≤ i → Split s i
-  unfolding pattern_in text_in
-  ahead_end h =
-      let h' : length s ≤ i + 1 = omega arith in
-      record {
-        within = a.within;
-        before = a.before ∙ (rw (drop_of_length-le s h) (append-nil (take i s)));
-        behind = a.behind ∙ (rw (drop_of_length-le s h, drop_of_length-le s h'));
-      }
+-- r is the place of a byte 10, or the length, and before it stands none
+pub split_first : (s : List ℕ) (r : ℕ) → r ≤ length s → ((k : ℕ) → k < r → get_or s k 0 ≡ 10 → ⊥) → (r < length s → get_or s r 0 ≡ 10) → Split s r
+unfolding pattern_in text_in
+split_first [] zero h n e = record { within = omega arith; before = refl; behind = refl }
+split_first [] (suc r) h n e = absurd (omega arith)
+split_first (b ∷ s) zero h n e = rw (e (omega arith)) (split_here s)
+split_first (b ∷ s) (suc r) h n e =
+    let n' : (k : ℕ) → k < r → get_or s k 0 ≡ 10 → ⊥ = λ k g. n (suc k) (omega arith) in
+    split_past b s r (n 0 (omega arith)) (split_first s r (omega arith) n' (λ g. e (omega arith)))
 
 -- an input parts at one place
 pub split_one : {s : List ℕ} {r r' : ℕ} → Split s r → Split s r' → r ≡ r'
 split_one {s} {r} {r'} a b =
     let e : take r s ≡ take r' s = sym a.before ∙ b.before in
     omega (arith, simp length-take at (ap length e), a.within, b.within)
-
--- ---- a line and a word
-
-module _ (line word : List ℕ) (i : ℕ) where
-  pub same_more : i < length line → i < length word → take i line ≡ take i word → get_or line i 0 ≡ get_or word i 0
-      → take (i + 1) line ≡ take (i + 1) word
-  same_more h h' e b = rw (add-one, take-suc line i 0 h, take-suc word i 0 h', e, b)
-
-  pub headed_all : i ≤ length word → length word ≤ i → take i line ≡ take i word → Headed line word
-  headed_all h h' e = let z : i ≡ length word = omega arith in (rw z at e) ∙ take-length word
-
-  pub headed_not : i < length word → (get_or line i 0 ≡ get_or word i 0 → ⊥) → Headed line word → ⊥
-  headed_not h n e = n (sym (get_or-take (length word) line i 0 h) ∙ ap (λ (l : List ℕ). get_or l i 0) e)
 
 pub headed_long : (line word : List ℕ) → Headed line word → length word ≤ length line
 headed_long line word e = omega (arith, simp length-take at (ap length e))

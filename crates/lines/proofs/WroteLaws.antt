@@ -1,11 +1,10 @@
 -- How runs of bytes that are put into a row follow one another. Assumes nothing.
 use mathlib.Core.Path.{◌≡◌, refl, ◌∙◌}
-use mathlib.Core.List.{List, [], ◌∷◌, ◌++◌, append_assoc}
-use Prim.Native.Nat.{ℕ, ◌+◌, ◌≤◌, ◌<◌}
-use native.Mathlib.Numerals.{add-one}
+use mathlib.Core.List.{List, [], ◌++◌, append_assoc}
+use Prim.Native.Nat.{ℕ, ◌+◌, ◌≤◌}
 use native.Mathlib.Omega.{arith}
-use lib.ListN.{length, take, drop, get_or, length-append}
-use lib.Seq.{length-sets, length-take-le, sets-eq, take-suc, take_all, take_at, drop_at}
+use lib.ListN.{length, take, drop, length-append}
+use lib.Seq.{length-sets, length-take-le, sets-eq, take_at, drop_at}
 use Rattle.bits.proofs.Writing.{sets_then, sets_front}
 use Rattle.lines.specs.Wrote.{Wrote}
 
@@ -18,14 +17,6 @@ wrote_then {t} {t₁} {t₂} {at} {r₁} {r₂} {l} {m} a b = record {
   wrote = b.wrote ∙ (rw (a.wrote, a.moved) (sets_then t at l m));
   moved = rw length-append (omega (arith, a.moved, b.moved));
 }
-
--- one byte more of a word
-pub word_more : (w : List ℕ) (i : ℕ) {t t₁ t₂ : List ℕ} {at r₁ r₂ : ℕ} → i < length w → Wrote t at (take i w) t₁ r₁ → Wrote t₁ r₁ (get_or w i 0 ∷ []) t₂ r₂
-    → Wrote t at (take (i + 1) w) t₂ r₂
-word_more w i h a b = rw (add-one, take-suc w i 0) (wrote_then a b)
-
-pub word_all : (w : List ℕ) (i : ℕ) {t t' : List ℕ} {at r : ℕ} → length w ≤ i → Wrote t at (take i w) t' r → Wrote t at w t' r
-word_all w i h a = rw (take_all i w h) at a
 
 -- the row keeps its length
 pub wrote_kept : {t t' : List ℕ} {at r : ℕ} {l : List ℕ} → Wrote t at l t' r → length t' ≡ length t

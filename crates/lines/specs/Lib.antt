@@ -1,4 +1,5 @@
 -- What the contracts cite.
 pub mod Wrote
+pub mod Puts
 pub mod Parts
 pub mod Desked

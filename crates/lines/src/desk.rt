@@ -1,10 +1,9 @@
 // The desk: the first bytes of an input part into pattern and text, and what is answered is printed.
-ghost use Rattle.std.specs.Prelude.{◌≡◌, min};
 ghost use Rattle.meaning.specs.Desk.{pattern_in, text_in};
 ghost use Rattle.lines.specs.Desked.{Answer, Desked};
 
 use crate::parts::split;
-use crate::print::answer;
+use crate::print::Writer;
 use tree::first_tree::first_tree;
 use tree::outcome::{flag, number, value};
 
@@ -18,13 +17,6 @@ const TOKENS: usize = 8192;
 // No output is longer.
 pub const ROOM: usize = 65536;
 
-// The smaller of two.
-fn least(a: usize, b: usize) -> usize
-    ensures { result ≡ min a b }
-{
-    if a < b { a } else { b }
-}
-
 // The lines of a pattern and a text.
 fn answered(pattern: &[u8], text: &[u8], out: &mut [u8]) -> usize
     ensures { Answer pattern.now text.now out.old out.new result }
@@ -32,8 +24,12 @@ fn answered(pattern: &[u8], text: &[u8], out: &mut [u8]) -> usize
     let mut cells = [0u64; CELLS];
     let mut room = [0u16; TOKENS];
     let got = first_tree(pattern, text, &mut cells, &mut room);
-    let n = number(got) as usize;
-    answer(out, n, value(got), flag(got), &room)
+    let mut lines = Writer::new(out);
+    lines.answer_line(number(got) as usize, value(got), flag(got));
+    if let Ok(tree) = got {
+        lines.tree_line(&room[..tree.length]);
+    }
+    lines.len()
 }
 
 // The lines of the bytes taken.
@@ -41,7 +37,7 @@ fn parted(taken: &[u8], out: &mut [u8]) -> usize
     ensures { Answer (pattern_in taken.now) (text_in taken.now) out.old out.new result }
 {
     let end = split(taken);
-    let from = least(end + 1, taken.len());
+    let from = (end + 1).min(taken.len());
     answered(&taken[..end], &taken[from..], out)
 }
 
@@ -49,6 +45,6 @@ fn parted(taken: &[u8], out: &mut [u8]) -> usize
 pub fn desk_lines(input: &[u8], out: &mut [u8; ROOM]) -> usize
     ensures { Desked input.now out.old out.new result }
 {
-    let n = least(TAKEN, input.len());
+    let n = TAKEN.min(input.len());
     parted(&input[..n], out)
 }

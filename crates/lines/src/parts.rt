@@ -5,29 +5,15 @@ ghost use Rattle.lines.specs.Parts.{Split, Said, Headed};
 pub fn split(input: &[u8]) -> usize
     ensures { Split input.now result }
 {
-    let mut i = 0;
-    while i < input.len() {
-        if input[i] == 10 {
-            return i;
-        }
-        i += 1;
-    }
-    i
+    input
+        .iter()
+        .position(|b| *b == b'\n')
+        .unwrap_or(input.len())
 }
 
 // Does the line begin with the word?
 pub fn is_word(line: &[u8], word: &[u8]) -> bool
     ensures { Said result (Headed line.now word.now) }
 {
-    if line.len() < word.len() {
-        return false;
-    }
-    let mut i = 0;
-    while i < word.len() {
-        if line[i] != word[i] {
-            return false;
-        }
-        i += 1;
-    }
-    true
+    line.starts_with(word)
 }

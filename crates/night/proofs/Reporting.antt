@@ -14,12 +14,13 @@ use Rattle.meaning.specs.Turns.{turn_count, bytes_read, longest_turn}
 use Rattle.laws.specs.Figures.{report_few}
 use Rattle.positions.specs.TurnBytes.{turns_few}
 use Rattle.tally.specs.Tally.{Holds, Tallied}
-use Rattle.tree.specs.declared.outcome.Outcome.{Outcome}
+use Rattle.meaning.specs.declared.Record.{Record}
+use Rattle.tree.specs.Outcome.{Outcome}
 use Rattle.tree.specs.Judge.{Seeks}
 use Rattle.night.specs.Reports.{Spacious, Reported}
 
 -- a row that is not counted
-tallied_none : {ts bs ls : List ℕ} → Tallied [] ts ts bs bs ls ls
+tallied_none : {fs : List Record} → Tallied [] fs fs
 unfolding turn_count bytes_read longest_turn
 tallied_none = record { more_turns = λ m l. omega arith; more_bytes = λ m l. omega arith; longer = λ m l. omega arith }
 
@@ -33,23 +34,23 @@ past_night {text = text} {cells = cells} {cells' = cells'} s l =
 
 module _ {e : Re} {text room : List ℕ} (j : marks e ≤ mark_limit) where
   -- over its limit
-  pub reported_long : {cells ts bs ls : List ℕ} → text_limit < length text → Reported e text cells cells room room ts ts bs bs ls ls 2
+  pub reported_long : {cells : List ℕ} {fs : List Record} → text_limit < length text → Reported e text cells cells room room fs fs 2
   unfolding bytes_read
   reported_long l = record { row = []; report = long_text l; tallied = tallied_none; few = λ h i. omega arith; past = refl; same_cells = refl }
 
   module _ {n v f : ℕ} {room' : List ℕ} (l : length text ≤ text_limit) (a : Judged e text room n v f room') where
     -- refused
-    pub reported_none : {cells cells' ts bs ls : List ℕ} {k : ℕ} → k ≡ n → (k ≡ 0 → ⊥) → drop night_cells cells' ≡ drop night_cells cells → length cells' ≡ length cells
-        → Reported e text cells cells' room room' ts ts bs bs ls ls k
+    pub reported_none : {cells cells' : List ℕ} {fs : List Record} → (n ≡ 0 → ⊥) → drop night_cells cells' ≡ drop night_cells cells → length cells' ≡ length cells
+        → Reported e text cells cells' room room' fs fs n
     unfolding bytes_read
-    reported_none i z p c = rw i (record {
+    reported_none z p c = record {
       row = [];
-      report = rw (ne_eqb n 0 (λ y. z (i ∙ y))) at (judged l a);
+      report = rw (ne_eqb n 0 z) at (judged l a);
       tallied = tallied_none;
       few = λ h i. omega arith;
       past = p;
       same_cells = c;
-    })
+    }
 
     -- with a row at the front of the room
     pub front_fits : n ≡ 0 → v ≤ length room'
@@ -63,12 +64,12 @@ module _ {e : Re} {text room : List ℕ} (j : marks e ≤ mark_limit) where
     front : n ≡ 0 → Report e text room n (take v room') room'
     front z = rw (eq-eqb n 0 z) at (judged l a)
 
-    pub front_held : {ts bs : List ℕ} → n ≡ 0 → Spacious ts bs → Holds (take v room') ts bs
+    pub front_held : {fs : List Record} → n ≡ 0 → Spacious fs → Holds (take v room') fs
     front_held z s = record {
       turns_held = λ m i. omega (arith, s.more_turns m i, turns_few (suc m) (take v room'), report_few (suc m) (omega arith) j (front z));
       bytes_held = λ m i. omega (arith, s.more_bytes m i, report_few (suc m) (omega arith) j (front z));
     }
 
-    pub reported_row : {cells cells' ts ts' bs bs' ls ls' : List ℕ} → n ≡ 0 → drop night_cells cells' ≡ drop night_cells cells → length cells' ≡ length cells
-        → Tallied (take v room') ts ts' bs bs' ls ls' → Reported e text cells cells' room room' ts ts' bs bs' ls ls' 0
+    pub reported_row : {cells cells' : List ℕ} {fs fs' : List Record} → n ≡ 0 → drop night_cells cells' ≡ drop night_cells cells → length cells' ≡ length cells
+        → Tallied (take v room') fs fs' → Reported e text cells cells' room room' fs fs' 0
     reported_row z p c t = record { row = take v room'; report = rw z at (front z); tallied = t; few = λ h i. report_few h i j (front z); past = p; same_cells = c }

@@ -19,7 +19,7 @@ use Rattle.passes.specs.Tables.{Tables}
 use Rattle.passes.specs.Ways.{onward, living}
 use Rattle.passes.proofs.Rests.{onward_ext}
 
-module _ (e : Re) (mask follow : List ℕ) (last first : Set) (T : Tables e mask follow last first) where
+module _ (e : Re) (mask follow : List Set) (last first : Set) (T : Tables e mask follow last first) where
   onward_resumes : (q : ℕ) (g : ℕ → Bool) (b : Bool) → q < size e → onward follow last q g b ≡ resumes 0 e q g b
   unfolding onward
   onward_resumes q g b l = ap₂ (λ (x y : Bool). x || y) (alike _ _ there back) (ap (λ (t : Bool). b && t) (T.ending q) ∙ and_comm b (ends 0 e q))

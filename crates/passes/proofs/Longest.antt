@@ -34,7 +34,7 @@ split_at text i c s e =
     let d = sym (drop-cons text i 0 l) ∙ e in
     split l (cc) (cc)
 
-module _ (e : Re) (o : Open e) (mask follow : List ℕ) (last first : Set) (T : Tables e mask follow last first) (text : List ℕ) where
+module _ (e : Re) (o : Open e) (mask follow : List Set) (last first : Set) (T : Tables e mask follow last first) (text : List ℕ) where
   -- g has the positions that are reached after i bytes
   abbrev Exactly : (ℕ → Bool) → ℕ → Type 0
   Exactly g i = (q : ℕ) → (g q ≡ true) ↔ Reached e text i q

@@ -13,11 +13,11 @@ use Rattle.sets.specs.declared.set.Set.{Set}
 use Rattle.sets.specs.Members.{has, limit, row, vacant}
 use Rattle.passes.specs.Ways.{joined, readers, readable}
 
-pub joined_ext : (follow : List ℕ) (s t : ℕ → Bool) → ((p : ℕ) → s p ≡ t p) → (q : ℕ) → joined follow s q ≡ joined follow t q
+pub joined_ext : (follow : List Set) (s t : ℕ → Bool) → ((p : ℕ) → s p ≡ t p) → (q : ℕ) → joined follow s q ≡ joined follow t q
 unfolding joined
 joined_ext follow s t e q = any_ext (λ p. s p && has (row follow p) q) (λ p. t p && has (row follow p) q) limit (λ p _. ap (λ (x : Bool). x && has (row follow p) q) (e p))
 
-module _ (mask follow : List ℕ) where
+module _ (mask follow : List Set) where
   pub readable_ext : (g h : ℕ → Bool) → ((q : ℕ) → g q ≡ h q) → (s : List ℕ) → readable mask follow g s ≡ readable mask follow h s
   unfolding readable
   readable_ext g h e [] = refl

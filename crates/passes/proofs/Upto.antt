@@ -7,9 +7,10 @@ use Prim.Native.Nat.{ℕ, ◌+◌, ◌*◌, ◌/◌, ◌%◌, ◌≤◌, ◌<◌
 use native.Mathlib.Omega.{arith}
 use lib.Dec.{eqb, ltb}
 use lib.ListN.{get_or}
-use borrow.Author.Tests.{eqb-true, eq-eqb, ne_eqb, ltb-true, lt-ltb, le-ltb, ltb-false}
+use borrow.Author.Tests.{eqb-true, eq-eqb, ne_eqb, ltb-true, lt-ltb, ltb-false}
 use Rattle.bits.specs.Bit.{bit}
 use Rattle.bits.specs.Truth.{alike, both, and_both, either}
+use Rattle.sets.specs.declared.set.Set.{Set}
 use Rattle.sets.specs.Members.{has, row, rows}
 use Rattle.passes.specs.Masks.{in_word, classed, Noted, Masked}
 
@@ -56,43 +57,33 @@ module _ (class : List ℕ) (q b : ℕ) (byte : b < 256) where
       ap (λ (t : Bool). t && bit 64 (get_or class (4 * q + b / 64) 0) (b % 64))
       (alike _ _ (λ e. lt-ltb q k (omega (arith, ltb-true (4 * q + b / 64) (4 * k) e))) (λ e. lt-ltb (4 * q + b / 64) (4 * k) (omega (arith, ltb-true q k e))))
 
-  upto_none : upto class 0 q b ≡ false
-  upto_none = ap (λ (t : Bool). t && bit 64 (get_or class (4 * q + b / 64) 0) (b % 64)) (le-ltb (4 * q + b / 64) 0 (omega arith))
-
-  upto_noted : (l₀ l m : List ℕ) (i : ℕ) → Noted (get_or class i 0) (i % 4) (i / 4) l m
+  upto_noted : (l₀ l m : List Set) (i : ℕ) → Noted (get_or class i 0) (i % 4) (i / 4) l m
       → has (row l b) q ≡ (has (row l₀ b) q || upto class i q b) → has (row m b) q ≡ (has (row l₀ b) q || upto class (i + 1) q b)
   upto_noted l₀ l m i N e =
       N.joins b q ∙ ap (λ (t : Bool). t || (in_word (get_or class i 0) (i % 4) b && eqb q (i / 4))) e
       ∙ or_assoc (has (row l₀ b) q) (upto class i q b) _ ∙ ap (λ (t : Bool). has (row l₀ b) q || t) (sym (upto_more i))
 
 -- a word of the first four has no byte from 256 on
-noted_past : {x w k : ℕ} {l m : List ℕ} → Noted x w k l m → w < 4 → (b q : ℕ) → 256 ≤ b → has (row m b) q ≡ has (row l b) q
+noted_past : {x w k : ℕ} {l m : List Set} → Noted x w k l m → w < 4 → (b q : ℕ) → 256 ≤ b → has (row m b) q ≡ has (row l b) q
 unfolding in_word
 noted_past {x} {w} {k} {l} N h b q far =
     N.joins b q ∙ ap (λ (t : Bool). has (row l b) q || ((t && bit 64 x (b % 64)) && eqb q k)) (ne_eqb (b / 64) w (λ z. omega arith)) ∙ or-false _
 
 -- a table was l before the words before word i brought it to m
-pub record Brought (class : List ℕ) (i : ℕ) (l m : List ℕ) : Type 0 where
+pub record Brought (class : List ℕ) (i : ℕ) (l m : List Set) : Type 0 where
   pub same_rows : rows m ≡ rows l
   pub joins : (b q : ℕ) → b < 256 → has (row m b) q ≡ (has (row l b) q || upto class i q b)
   pub past : (b q : ℕ) → 256 ≤ b → has (row m b) q ≡ has (row l b) q
 
 module _ (class : List ℕ) where
-  pub brought_none : (l : List ℕ) → Brought class 0 l l
-  brought_none l = record {
-    same_rows = refl;
-    joins = λ b q h. sym (ap (λ (t : Bool). has (row l b) q || t) (upto_none class q b h) ∙ or-false _);
-    past = λ b q h. refl;
-  }
-
-  pub brought_more : {l m m' : List ℕ} (i : ℕ) → Brought class i l m → Noted (get_or class i 0) (i % 4) (i / 4) m m' → Brought class (i + 1) l m'
+  pub brought_more : {l m m' : List Set} (i : ℕ) → Brought class i l m → Noted (get_or class i 0) (i % 4) (i / 4) m m' → Brought class (i + 1) l m'
   brought_more {l} {m} {m'} i B N = record {
     same_rows = N.same_rows ∙ B.same_rows;
     joins = λ b q h. upto_noted class q b h l m m' i N (B.joins b q h);
     past = λ b q h. noted_past N (omega arith) b q h ∙ B.past b q h;
   }
 
-  pub brought_all : {l m : List ℕ} (k : ℕ) → Brought class (4 * k) l m → Masked class k l m
+  pub brought_all : {l m : List Set} (k : ℕ) → Brought class (4 * k) l m → Masked class k l m
   brought_all {l} k B = record {
     same_rows = B.same_rows;
     joins = λ b q h. B.joins b q h ∙ ap (λ (t : Bool). has (row l b) q || t) (upto_all class q b h k);

@@ -29,7 +29,7 @@ at_member P q k = go (eqb k q) refl
     go false e = refl
 
 -- position k joined row r of a table
-pub row_joined : (r k : ℕ) (s u : Set) (l m : List ℕ) → s ≡ row l r → ((q : ℕ) → has u q ≡ (has s q || eqb q k)) → Stored u r l m
+pub row_joined : (r k : ℕ) (s u : Set) (l m : List Set) → s ≡ row l r → ((q : ℕ) → has u q ≡ (has s q || eqb q k)) → Stored u r l m
     → (p q : ℕ) → has (row m p) q ≡ (has (row l p) q || (eqb p r && eqb q k))
 row_joined r k s u l m i e S p q = go (eqb p r) refl
   where
@@ -50,7 +50,7 @@ module _ (left rest : Set) (q : ℕ) (here : has left q ≡ true) (less : (k : �
   found_more P f g e k = rw (e k, ← at_member P q k, less k) (moved (eqb k q) (f k) (has left k) (P k) (member k))
 
   -- what q brings
-  pub joined_more : (follow : List ℕ) (k : ℕ) → joined follow (has left) k ≡ (has (row follow q) k || joined follow (has rest) k)
+  pub joined_more : (follow : List Set) (k : ℕ) → joined follow (has left) k ≡ (has (row follow q) k || joined follow (has rest) k)
   unfolding joined
   joined_more follow k = alike _ _ there back
     where
@@ -88,6 +88,6 @@ none_any f n e = go (any f n) refl
     go false i = refl
 
 -- no member, nothing joined
-pub joined_none : (s : Set) → ((q : ℕ) → has s q ≡ false) → (follow : List ℕ) (k : ℕ) → joined follow (has s) k ≡ false
+pub joined_none : (s : Set) → ((q : ℕ) → has s q ≡ false) → (follow : List Set) (k : ℕ) → joined follow (has s) k ≡ false
 unfolding joined
 joined_none s e follow k = none_any (λ p. has s p && has (row follow p) k) limit (λ p. ap (λ (t : Bool). t && has (row follow p) k) (e p))

@@ -1,6 +1,7 @@
 -- Which positions read a byte, as a table with a row for each byte. Assumes nothing: these are definitions.
 use Rattle.std.specs.Prelude.{◌≡◌, Bool, ◌&&◌, ◌||◌, List, ℕ, ◌+◌, ◌*◌, ◌/◌, ◌%◌, ◌≤◌, ◌<◌, eqb, ltb, get_or}
 use Rattle.bits.specs.Bit.{bit}
+use Rattle.sets.specs.declared.set.Set.{Set}
 use Rattle.sets.specs.Members.{has, row, rows}
 
 -- byte b stands in word w, whose value is x
@@ -8,7 +9,7 @@ unfoldable pub in_word : ℕ → ℕ → ℕ → Bool
 in_word x w b = eqb (b / 64) w && bit 64 x (b % 64)
 
 -- position k joined the rows of the bytes in word w, whose value is x
-pub record Noted (x w k : ℕ) (l m : List ℕ) : Type 0 where
+pub record Noted (x w k : ℕ) (l m : List Set) : Type 0 where
   pub same_rows : rows m ≡ rows l
   pub joins : (b q : ℕ) → has (row m b) q ≡ (has (row l b) q || (in_word x w b && eqb q k))
 
@@ -17,7 +18,7 @@ unfoldable pub classed : List ℕ → ℕ → ℕ → ℕ → Bool
 classed class n q b = ltb q n && bit 64 (get_or class (4 * q + b / 64) 0) (b % 64)
 
 -- each of n positions joined the rows of its bytes, and the rows past those of bytes stay
-pub record Masked (class : List ℕ) (n : ℕ) (l m : List ℕ) : Type 0 where
+pub record Masked (class : List ℕ) (n : ℕ) (l m : List Set) : Type 0 where
   pub same_rows : rows m ≡ rows l
   pub joins : (b q : ℕ) → b < 256 → has (row m b) q ≡ (has (row l b) q || classed class n q b)
   pub past : (b q : ℕ) → 256 ≤ b → has (row m b) q ≡ has (row l b) q

@@ -6,9 +6,5 @@ pub fn clear(cells: &mut [u64], n: usize)
     requires { n < length cells.old }
     ensures { cells.new ≡ replicate (n + 1) 0 ++ drop (n + 1) cells.old }
 {
-    let mut i = 0;
-    while i <= n {
-        cells[i] = 0;
-        i += 1;
-    }
+    cells[..=n].fill(0);
 }

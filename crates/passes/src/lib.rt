@@ -3,6 +3,7 @@
 
 pub mod backward;
 pub mod cells;
+pub mod join;
 pub mod masks;
 pub mod place;
 pub mod reverse;

@@ -7,19 +7,17 @@ use crate::steps::after;
 use sets::set::Set;
 
 // How many bytes of the text can be read from the positions of first, one after another.
-pub fn place(text: &[u8], mask: &[u64], follow: &[u64], first: Set) -> usize
+pub fn place(text: &[u8], mask: &[Set], follow: &[Set], first: Set) -> usize
     requires { (256 ≤ rows mask.now) × (limit ≤ rows follow.now) }
     ensures { result ≡ readable mask.now follow.now (has first) text.now }
 {
     let mut next = first;
-    let mut i = 0;
-    while i < text.len() {
-        let reading = next.meet(Set::load(mask, text[i] as usize));
+    for (i, b) in text.iter().enumerate() {
+        let reading = next.meet(mask[*b as usize]);
         if reading.is_empty() {
             return i;
         }
         next = after(follow, reading);
-        i += 1;
     }
-    i
+    text.len()
 }

@@ -3,21 +3,18 @@ ghost use Rattle.std.specs.Prelude.{◌≡◌, ℕ, ◌≤◌};
 ghost use Rattle.sets.specs.Members.{has, limit, rows};
 ghost use Rattle.passes.specs.Ways.{joined};
 
-use sets::set::{LIMIT, Set};
+use sets::set::Set;
 
 // What the rows of the members of s have.
-pub fn after(table: &[u64], s: Set) -> Set
+pub fn after(table: &[Set], s: Set) -> Set
     requires { limit ≤ rows table.now }
     ensures { (q : ℕ) → has result q ≡ joined table.now (has s) q }
 {
     let mut found = Set::empty();
     let mut left = s;
-    let mut q = left.first();
-    while q < LIMIT {
-        let row = Set::load(table, q);
+    while let Some(q) = left.pop_first() {
+        let row = table[q];
         found = found.union(row);
-        left = left.without(q);
-        q = left.first();
     }
     found
 }

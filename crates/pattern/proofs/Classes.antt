@@ -6,24 +6,26 @@ use Prim.Native.Nat.{ℕ, suc, ◌+◌, ◌*◌, ◌≤◌, ◌<◌}
 use native.Mathlib.Omega.{arith}
 use lib.ListN.{length, get_or, set}
 use lib.Seq.{sets, set_out}
+use Rattle.std.specs.Prelude.{eqb}
+use Rattle.std.proofs.lemmas.Bool.Decides.{nat_tests}
+use Rattle.std.specs.declared.result.Result.{Result}
+use Rattle.std.specs.declared.result.Result.TheVariants.{Ok, Err}
+use Rattle.std.specs.declared.option.Option.TheVariants.{Some, None}
+use Rattle.std.specs.Result.{result_ok}
 use Rattle.sets.specs.declared.class.Class.{Class}
 use Rattle.sets.specs.Classes.{among, ClassFits}
 use Rattle.sets.proofs.ClassLaws.{class_word}
 use Rattle.meaning.specs.Expression.{pos}
 use Rattle.meaning.specs.Grammar.{range, either}
 use Rattle.meaning.specs.ReadPattern.{word, words}
-use Rattle.grammar.specs.Contract.{AtomDone, AtomBad}
-use Rattle.grammar.specs.ClassContract.{RangesDone, ClassBad, ranges_first, ranges_more, atom_class, atom_class_bad}
+use Rattle.grammar.specs.Contract.{AtomDone, ItemFails, atom_fails}
+use Rattle.grammar.specs.ClassContract.{RangesDone, ranges_first, ranges_more, atom_class, atom_class_bad}
 use Rattle.pattern.specs.Stores.{Tests, Keeps}
-use Rattle.pattern.specs.Letters.{On, LetterTo, PositionDone, KeptTo, RangeTo, ClassRead, Classed, LetterRead, Lettered, Tested}
-use Rattle.pattern.specs.declared.letters.Past.{Past}
-use Rattle.pattern.specs.declared.letters.Past.TheVariants.{To, Not}
+use Rattle.pattern.specs.Letters.{On, LetterTo, PositionDone, KeptTo, RangeTo, Classed, Lettered}
+use Rattle.pattern.specs.declared.letters.Misplaced.{Misplaced}
 use Rattle.pattern.specs.declared.letters.Taken.{Taken}
 
 -- ---- classes
-
-pub no_class : {s : List ℕ} {i p : ℕ} (t : Taken) → t.past ≡ Not p → ClassBad s i p → Classed s i t
-no_class t e h = rw e h
 
 -- k' is k with the range from c to d
 abbrev pub Widened : Class → ℕ → ℕ → Class → Type 0
@@ -47,21 +49,34 @@ next_range {c = c} {d} k k' h g w = record {
 
 -- ---- letters
 
-pub no_letter : {s : List ℕ} {i p : ℕ} (t : Taken) → t.past ≡ Not p → AtomBad s i p → Lettered s i t
-no_letter t e h = rw e h
+-- the byte d alone
+only_byte : (d q : ℕ) → eqb q d ≡ range d d q
+only_byte d q = grind (arith, nat_tests)
 
-pub test_letter : {s : List ℕ} {i j : ℕ} {f : ℕ → Bool} {t : Taken} → Tested f j t → AtomDone s i j (pos f) 0 → On (length s) i j → Lettered s i t
-test_letter {f = f} r a o = rw r.past (record { test = f; done = a; says = r.says; on = o })
+pub byte_letter : {s : List ℕ} {i j : ℕ} (d : ℕ) (k k' : Class) → AtomDone s i j (pos (range d d)) 0 → ((q : ℕ) → among k q ≡ false)
+    → ((q : ℕ) → among k' q ≡ (among k q || eqb q d)) → On (length s) i j → LetterTo PositionDone s i j k'
+byte_letter d k k' a n w o = record {
+  test = range d d;
+  done = a;
+  says = λ q l. w q ∙ ap (λ (b : Bool). b || eqb q d) (n q) ∙ only_byte d q;
+  on = o;
+}
 
-pub class_letter : (s : List ℕ) (i : ℕ) (t : Taken) → i < length s → get_or s i 0 ≡ 91 → Classed s (i + 1) t → Lettered s i t
-class_letter s i t l e = go t.class t.past
-  where
-    go : (k : Class) (q : Past) → ClassRead s (i + 1) k q → LetterRead s i k q
-    go k (To j) h = record { test = h.test; done = atom_class s i l e h.done; says = h.says; on = record { on = omega (arith, h.on.on); inside = h.on.inside } }
-    go k (Not p) h = atom_class_bad s i l e h
+pub class_letter : (s : List ℕ) (i : ℕ) (r : Result Taken Misplaced) → i < length s → get_or s i 0 ≡ 91 → Classed s (i + 1) r → Lettered s i r
+class_letter s i (Ok t) l e h = record { test = h.test; done = atom_class s i l e h.done; says = h.says; on = record { on = omega (arith, h.on.on); inside = h.on.inside } }
+class_letter s i (Err m) l e h = atom_class_bad s i l e h
 
 pub letter_kept : {s : List ℕ} {i j n : ℕ} {k : Class} {ws ws' : List ℕ} → LetterTo PositionDone s i j k → Keeps n k ws ws' → KeptTo s i j n ws ws'
 letter_kept h w = record { test = h.test; done = h.done; word = w h.test h.says; on = h.on }
+
+-- a letter that was read, and none
+pub letter_some : {s : List ℕ} {i : ℕ} {t : Taken} (r : Result Taken Misplaced) → Lettered s i r → Some t ≡ result_ok r → LetterTo PositionDone s i t.next t.class
+letter_some {t = t} (Ok u) h e = let x : t ≡ u = cc in rw x h
+letter_some (Err m) h e = absurd cc
+
+pub letter_none : {s : List ℕ} {i left : ℕ} (r : Result Taken Misplaced) → Lettered s i r → None ≡ result_ok r → ItemFails s i left
+letter_none (Ok t) h e = absurd cc
+letter_none (Err m) h e = atom_fails h
 
 -- ---- the words of a class
 
@@ -82,9 +97,5 @@ module _ (t : List ℕ) (n : ℕ) (k : Class) (f : ℕ → Bool) where
       let c : 4 * n + 3 ≡ suc (suc (suc (4 * n))) = omega arith in
       rw (a, b, c, w 0 (omega arith), w 1 (omega arith), w 2 (omega arith), w 3 (omega arith))
 
-  pub unkept : length t ≡ 256 → 64 ≤ n → t ≡ sets t (4 * n) (words (pos f))
-  unkept h l = sym (sets_out t (words (pos f)) (4 * n) (omega arith))
-
--- where there is no place for the words of a letter's class, the store is as before
-pub placeless : {s ws ws' : List ℕ} {i j n : ℕ} → KeptTo s i j n ws ws' → length ws ≡ 256 → 64 ≤ n → ws' ≡ ws
-placeless {ws = ws} {n = n} h e l = h.word ∙ sets_out ws (words (pos h.test)) (4 * n) (omega arith)
+pub unkept : (t : List ℕ) (n : ℕ) (f : ℕ → Bool) → length t ≡ 256 → 64 ≤ n → t ≡ sets t (4 * n) (words (pos f))
+unkept t n f h l = sym (sets_out t (words (pos f)) (4 * n) (omega arith))

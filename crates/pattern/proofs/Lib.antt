@@ -2,11 +2,9 @@
 pub mod Rows
 pub mod Classes
 pub mod Signs
-pub mod Turns
 pub mod Written
 pub mod Steps
 pub mod Marks
 pub mod Whole
-pub mod Filling
 pub mod Unique
 pub mod Held

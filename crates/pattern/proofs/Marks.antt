@@ -11,6 +11,10 @@ use Rattle.meaning.specs.ReadPattern.{nodes, kinds, node_of, args}
 use Rattle.grammar.specs.Holds.{stands_left, nodes_some, kinds_length, args_length}
 use Rattle.pattern.specs.Stores.{bare_args, Lies, Numberable, Numbered, Numbers}
 use Rattle.bits.proofs.Writing.{sets_behind}
+use Rattle.kinds.specs.declared.Node.{Node}
+use Rattle.kinds.specs.declared.Node.TheVariants.{Eps}
+use Rattle.kinds.specs.Nodes.{kind_of, arg_of, kinds_of, args_of}
+use Rattle.kinds.proofs.NodeLaws.{PairAt, kind_at, args_set, kinds_same}
 use Rattle.pattern.proofs.Rows.{writes, sets_comm, stands_end, stands_behind, sets_same, length_bare_args}
 use Rattle.pattern.proofs.Written.{Over, Both, over_branch, over_star, over_plus, over_opt, both_cat, both_alt}
 
@@ -106,17 +110,17 @@ lies_below {gs = gs} {i = i} {x = x} v h o =
 
 -- ---- what the walk asks of its calls
 
--- node i has two parts: both lie before it, and are numbered one after the other
-pub record Splits (ks gs : List ℕ) (i m : ℕ) : Type 0 where
-  pub above : get_or gs i 0 < i
-  pub left : Numberable ks gs (get_or gs i 0) m
-  pub right : (gs' : List ℕ) (n : ℕ) → Numbers ks gs gs' (get_or gs i 0) m n → Numberable ks gs' (i - 1) n
+-- node i has two parts, the left one at j: both lie before it, and are numbered one after the other
+pub record Splits (ks gs : List ℕ) (i j m : ℕ) : Type 0 where
+  pub above : j < i
+  pub left : Numberable ks gs j m
+  pub right : (gs' : List ℕ) (n : ℕ) → Numbers ks gs gs' j m n → Numberable ks gs' (i - 1) n
 
-pub splits : {ks gs : List ℕ} {i m : ℕ} → Numberable ks gs i m → 2 ≤ get_or ks i 0 → get_or ks i 0 < 4 → Splits ks gs i m
-splits {ks} {gs} {i} {m} h l g = go (shape h.e).shape
+pub splits : {ks gs : List ℕ} {i j m : ℕ} → Numberable ks gs i m → PairAt ks gs i j → Splits ks gs i j m
+splits {ks} {gs} {i} {j} {m} h t = rw t.left at (go (shape h.e).shape)
   where
-    go : {k : ℕ} → Shape k h.e → Splits ks gs i m
-    go (leaf n a b c d) = absurd (omega (arith, l, n, lies_kind h.lies (leaf n a b c d)))
+    go : {k : ℕ} → Shape k h.e → Splits ks gs i (get_or gs i 0) m
+    go (leaf n a b c d) = absurd (omega (arith, t.least, n, lies_kind h.lies (leaf n a b c d)))
     go (pair {x = x} {y = y} a c b) = record {
       above = omega (arith, lies_arg h.lies b, h.lies.last, b.node);
       left = record { e = x; u = h.u; p = h.p; lies = lies_left h.lies b; few = omega (arith, h.few, b.mark) };
@@ -124,13 +128,27 @@ splits {ks} {gs} {i} {m} h l g = go (shape h.e).shape
           let r = f x h.u h.p (lies_left h.lies b) in
           record { e = y; u = h.u + nodes x; p = h.p + size x; lies = lies_after m h.lies b r.arg; few = omega (arith, h.few, b.mark, r.marks) };
     }
-    go (over a o) = absurd (omega (arith, a, g, lies_kind h.lies (over a o)))
+    go (over a o) = absurd (omega (arith, a, t.most, lies_kind h.lies (over a o)))
+
+-- node i has a mark, which is v in the new rows
+pub record Remarked (ks gs ks' gs' : List ℕ) (i v : ℕ) : Type 0 where
+  pub marked : 4 ≤ get_or ks i 0
+  pub kinds : ks' ≡ ks
+  pub args : gs' ≡ set gs i v
+
+pub remarked : (ns : List Node) (i : ℕ) (x : Node) {v : ℕ} → 4 ≤ get_or (kinds_of ns) i 0 → kind_of x ≡ kind_of (get_or ns i Eps)
+    → (4 ≤ kind_of (get_or ns i Eps) → arg_of x ≡ v) → Remarked (kinds_of ns) (args_of ns) (kinds_of (set ns i x)) (args_of (set ns i x)) i v
+remarked ns i x g k a = record {
+  marked = g;
+  kinds = kinds_same ns i x k;
+  args = args_set ns i x ∙ ap (λ (w : ℕ). set (args_of ns) i w) (a (omega (arith, g, kind_at ns i (get_or ns i Eps) refl)));
+}
 
 -- node i has a mark, and its part lies before it
 pub record Carries (ks gs : List ℕ) (i m : ℕ) : Type 0 where
   pub above : 0 < i
   pub few : m + 1 < 65536
-  pub inner : Numberable ks (set gs i (m + 1)) (i - 1) (m + 1)
+  pub inner : (ks' gs' : List ℕ) → Remarked ks gs ks' gs' i (m + 1) → Numberable ks' gs' (i - 1) (m + 1)
 
 pub carries : {ks gs : List ℕ} {i m : ℕ} → Numberable ks gs i m → 4 ≤ get_or ks i 0 → Carries ks gs i m
 carries {ks} {gs} {i} {m} h g = go (shape h.e).shape
@@ -141,7 +159,7 @@ carries {ks} {gs} {i} {m} h g = go (shape h.e).shape
     go (over {x = x} a o) = record {
       above = omega (arith, h.lies.last, o.node, nodes_some x);
       few = omega (arith, h.few, o.mark);
-      inner = record { e = x; u = h.u; p = h.p; lies = lies_below (m + 1) h.lies o; few = omega (arith, h.few, o.mark) };
+      inner = λ ks' gs' w. record { e = x; u = h.u; p = h.p; lies = rw (w.kinds, w.args) (lies_below (m + 1) h.lies o); few = omega (arith, h.few, o.mark) };
     }
 
 -- ---- what the walk has numbered
@@ -154,14 +172,13 @@ leaf_numbers {ks} {gs} {i} {m} l e u p h = go (shape e).shape
     go (pair a c b) = absurd (omega (arith, l, a, lies_kind h (pair a c b)))
     go (over a o) = absurd (omega (arith, l, a, lies_kind h (over a o)))
 
-pub pair_numbers : {ks gs gs₁ gs₂ : List ℕ} {i m n r : ℕ} → 2 ≤ get_or ks i 0 → get_or ks i 0 < 4 → Numbers ks gs gs₁ (get_or gs i 0) m n
-    → Numbers ks gs₁ gs₂ (i - 1) n r → Numbers ks gs gs₂ i m r
-pair_numbers {ks} {gs} {gs₁} {gs₂} {i} {m} {n} {r} l g f f' e u p h = go (shape e).shape
+pub pair_numbers : {ks gs gs₁ gs₂ : List ℕ} {i j m n r : ℕ} → PairAt ks gs i j → Numbers ks gs gs₁ j m n → Numbers ks gs₁ gs₂ (i - 1) n r → Numbers ks gs gs₂ i m r
+pair_numbers {ks} {gs} {gs₁} {gs₂} {i} {j} {m} {n} {r} t f f' e u p h = go (shape e).shape
   where
     go : {k : ℕ} → Shape k e → Numbered u p m e gs gs₂ r
-    go (leaf n a b c d) = absurd (omega (arith, l, n, lies_kind h (leaf n a b c d)))
+    go (leaf n a b c d) = absurd (omega (arith, t.least, n, lies_kind h (leaf n a b c d)))
     go (pair {x = x} {y = y} a c b) =
-        let q = f x u p (lies_left h b) in
+        let q = f x u p (rw t.left at (lies_left h b)) in
         let q' = f' y (u + nodes x) (p + size x) (lies_after m h b q.arg) in
         let v : node_of u x ≡ get_or gs i 0 = omega (arith, lies_arg h b) in
         let stays : get_or gs₂ i 0 ≡ node_of u x =
@@ -180,16 +197,16 @@ pair_numbers {ks} {gs} {gs₁} {gs₂} {i} {m} {n} {r} l g f f' e u p h = go (sh
               (omega (arith, args_length u m p x)));
           marks = omega (arith, q.marks, q'.marks, b.mark);
         }
-    go (over a o) = absurd (omega (arith, g, a, lies_kind h (over a o)))
+    go (over a o) = absurd (omega (arith, t.most, a, lies_kind h (over a o)))
 
-pub over_numbers : {ks gs gs₁ : List ℕ} {i m r : ℕ} → 4 ≤ get_or ks i 0 → Numbers ks (set gs i (m + 1)) gs₁ (i - 1) (m + 1) r → Numbers ks gs gs₁ i m r
-over_numbers {ks} {gs} {gs₁} {i} {m} {r} g f e u p h = go (shape e).shape
+pub over_numbers : {ks gs ks' gs' gs₁ : List ℕ} {i m r : ℕ} → Remarked ks gs ks' gs' i (m + 1) → Numbers ks' gs' gs₁ (i - 1) (m + 1) r → Numbers ks gs gs₁ i m r
+over_numbers {ks} {gs} {ks'} {gs'} {gs₁} {i} {m} {r} w f e u p h = go (shape e).shape
   where
     go : {k : ℕ} → Shape k e → Numbered u p m e gs gs₁ r
-    go (leaf n a b c d) = absurd (omega (arith, g, n, lies_kind h (leaf n a b c d)))
-    go (pair a c b) = absurd (omega (arith, g, c, lies_kind h (pair a c b)))
+    go (leaf n a b c d) = absurd (omega (arith, w.marked, n, lies_kind h (leaf n a b c d)))
+    go (pair a c b) = absurd (omega (arith, w.marked, c, lies_kind h (pair a c b)))
     go (over {x = x} a o) =
-        let q = rw (add-one m) at (f x u p (lies_below (m + 1) h o)) in
+        let q = rw (add-one m) at ((rw (w.kinds, w.args) at f) x u p (lies_below (m + 1) h o)) in
         let row = args u (suc m) p x in
         let behind : i ≡ u + length row = omega (arith, args_length u (suc m) p x, h.last, o.node) in
         record {

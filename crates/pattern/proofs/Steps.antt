@@ -1,18 +1,21 @@
 -- One law for each way through the readers of atoms, items, branches and lists that reads something. Assumes nothing.
-use mathlib.Core.Path.{◌≡◌, refl, ◌∙◌}
+use mathlib.Core.Path.{◌≡◌, ◌∙◌}
 use mathlib.Core.List.{List}
 use Prim.Native.Nat.{ℕ, suc, ◌+◌, ◌-◌, ◌≤◌, ◌<◌, max}
 use native.Mathlib.Omega.{arith}
 use lib.ListN.{length, get_or}
+use Rattle.std.specs.declared.option.Option.TheVariants.{Some, None}
 use Rattle.meaning.specs.Expression.{Re, eps, pos, cat, alt, branch}
+use Rattle.kinds.specs.declared.Node.{Node}
+use Rattle.kinds.specs.Nodes.{kind_of, arg_of}
 use Rattle.grammar.specs.Machine.{Sign, is_star, is_plus, is_opt}
 use Rattle.grammar.specs.ByteTests as tests
 use Rattle.grammar.specs.Contract.{AtomDone, ItemDone, BranchDone, FrontsDone, ListDone, ItemFails, ListFails}
 use Rattle.grammar.specs.Contract.{atom_unit, atom_group, item_signed, item_bare, branch_one, branch_more, fronts_first, fronts_more, list_lone, list_several}
 use Rattle.grammar.specs.Contract.{atom_deep, atom_group_fails, atom_group_open, branch_rest_fails, list_next_fails}
-use Rattle.pattern.specs.Stores.{Stores, stores, Room, Put, Became, Wrote, Moved, Within}
+use Rattle.pattern.specs.Stores.{Stores, with_words, Put, Became, Wrote, Moved, Within}
 use Rattle.pattern.specs.Letters.{KeptTo}
-use Rattle.pattern.specs.Parts.{ByteAt, Goes, End, of_text, by_bar, by_close, Signed, star_at, plus_at, opt_at, none_at, ReadTo, FrontsAt}
+use Rattle.pattern.specs.Parts.{ByteAt, Goes, End, of_text, by_bar, by_close, Signed, star_at, plus_at, opt_at, ReadTo, FrontsAt}
 use Rattle.pattern.specs.declared.nodes.Cursor.{Cursor}
 use Rattle.pattern.proofs.Signs.{unsigned}
 use Rattle.pattern.proofs.Written.{Over, over_branch, over_star, over_plus, over_opt, both_cat, both_alt, wrote_eps, wrote_pos, wrote_over, wrote_both, wrote_from, wrote_to}
@@ -34,9 +37,9 @@ within w m = record {
 
 -- ---- atoms
 
-module _ {s : List ℕ} {left : ℕ} {c f : Cursor} {S : Stores} {ks' gs' : List ℕ} where
+module _ {s : List ℕ} {left : ℕ} {c f : Cursor} {S S' : Stores} where
   pub unit_read : 0 < left → ByteAt s c.at 40 → ByteAt s (c.at + 1) 41 → Became f (c.at + 2) (c.used + 1) c.positions c.marks
-      → Put c.used 0 0 S.kind S.arg ks' gs' → ReadTo 1 AtomDone s left c f S (stores ks' gs' S.word)
+      → Put c.used 0 0 S S' → ReadTo 1 AtomDone s left c f S S'
   unit_read l o x b p = record {
     reading = eps;
     deep = 1;
@@ -46,8 +49,8 @@ module _ {s : List ℕ} {left : ℕ} {c f : Cursor} {S : Stores} {ks' gs' : List
     wrote = wrote_eps b p;
   }
 
-  pub letter_read : {next : ℕ} {ws' : List ℕ} → KeptTo s c.at next c.positions S.word ws' → Became f next (c.used + 1) (c.positions + 1) c.marks
-      → Put c.used 1 c.positions S.kind S.arg ks' gs' → ReadTo 1 AtomDone s left c f S (stores ks' gs' ws')
+  pub letter_read : {next : ℕ} {ws : List ℕ} → KeptTo s c.at next c.positions S.word ws → Became f next (c.used + 1) (c.positions + 1) c.marks
+      → Put c.used 1 c.positions (with_words S ws) S' → ReadTo 1 AtomDone s left c f S S'
   letter_read h b p = record {
     reading = pos h.test;
     deep = 0;
@@ -71,18 +74,17 @@ group_read {s} {c = c} l o b h x g = record {
 
 -- ---- items
 
-pub bare_read : {s : List ℕ} {left : ℕ} {c d : Cursor} {S S' : Stores} {k : ℕ} → ReadTo 1 AtomDone s left c d S S' → Signed s d.at k → k ≡ 0
+pub bare_read : {s : List ℕ} {left : ℕ} {c d : Cursor} {S S' : Stores} → ReadTo 1 AtomDone s left c d S S' → Signed s d.at None
     → ReadTo 1 ItemDone s left c d S S'
-bare_read h x e = record { reading = h.reading; deep = h.deep; shallow = h.shallow; done = item_bare h.done (unsigned x e); moved = h.moved; wrote = h.wrote }
+bare_read h x = record { reading = h.reading; deep = h.deep; shallow = h.shallow; done = item_bare h.done (unsigned x); moved = h.moved; wrote = h.wrote }
 
-pub signed_read : {s : List ℕ} {left : ℕ} {c d f : Cursor} {S S₁ : Stores} {ks' gs' : List ℕ} {k : ℕ} → ReadTo 1 AtomDone s left c d S S₁ → Signed s d.at k → (k ≡ 0 → ⊥)
-    → Became f (d.at + 1) (d.used + 1) d.positions (d.marks + 1) → Put d.used k 0 S₁.kind S₁.arg ks' gs'
-    → ReadTo 1 ItemDone s left c f S (stores ks' gs' S₁.word)
-signed_read {s} {left} {c} {d} {f} {S} {S₁} {ks'} {gs'} h x n b p = go x n p
+pub signed_read : {s : List ℕ} {left : ℕ} {c d f : Cursor} {S S₁ S' : Stores} {x : Node} → ReadTo 1 AtomDone s left c d S S₁ → Signed s d.at (Some x)
+    → Became f (d.at + 1) (d.used + 1) d.positions (d.marks + 1) → Put d.used (kind_of x) (arg_of x) S₁ S' → ReadTo 1 ItemDone s left c f S S'
+signed_read {s} {left} {c} {d} {f} {S} {S₁} {S'} h x b p = go x p
   where
     -- by the sign v, which makes r of what it stands behind
     by : {r : Re → Re} {k v : ℕ} → Over k h.reading (r h.reading) → ByteAt s d.at v → Sign v r
-        → Put d.used k 0 S₁.kind S₁.arg ks' gs' → ReadTo 1 ItemDone s left c f S (stores ks' gs' S₁.word)
+        → Put d.used k 0 S₁ S' → ReadTo 1 ItemDone s left c f S S'
     by {r} o y z q = record {
       reading = r h.reading;
       deep = h.deep;
@@ -92,20 +94,18 @@ signed_read {s} {left} {c} {d} {f} {S} {S₁} {ks'} {gs'} h x n b p = go x n p
       wrote = wrote_over o h.wrote b q;
     }
 
-    go : {k : ℕ} → Signed s d.at k → (k ≡ 0 → ⊥) → Put d.used k 0 S₁.kind S₁.arg ks' gs' → ReadTo 1 ItemDone s left c f S (stores ks' gs' S₁.word)
-    go (star_at y) l q = by (over_star h.reading) y is_star q
-    go (plus_at y) l q = by (over_plus h.reading) y is_plus q
-    go (opt_at y) l q = by (over_opt h.reading) y is_opt q
-    go (none_at y) l q = absurd (l refl)
+    go : {x : Node} → Signed s d.at (Some x) → Put d.used (kind_of x) (arg_of x) S₁ S' → ReadTo 1 ItemDone s left c f S S'
+    go (star_at y) q = by (over_star h.reading) y is_star q
+    go (plus_at y) q = by (over_plus h.reading) y is_plus q
+    go (opt_at y) q = by (over_opt h.reading) y is_opt q
 
 -- ---- branches
 
 pub one_item : {s : List ℕ} {left : ℕ} {c d : Cursor} {S S' : Stores} → ReadTo 1 ItemDone s left c d S S' → ReadTo 1 BranchDone s left c d S S'
 one_item h = record { reading = h.reading; deep = h.deep; shallow = h.shallow; done = branch_one h.done; moved = h.moved; wrote = h.wrote }
 
-pub item_and_rest : {s : List ℕ} {left : ℕ} {c d e f : Cursor} {S S₁ S₂ : Stores} {ks' gs' : List ℕ} → ReadTo 1 ItemDone s left c d S S₁ → ReadTo 1 BranchDone s left d e S₁ S₂
-    → Became f e.at (e.used + 1) e.positions e.marks → Put e.used 2 (d.used - 1) S₂.kind S₂.arg ks' gs'
-    → ReadTo 1 BranchDone s left c f S (stores ks' gs' S₂.word)
+pub item_and_rest : {s : List ℕ} {left : ℕ} {c d e f : Cursor} {S S₁ S₂ S' : Stores} → ReadTo 1 ItemDone s left c d S S₁ → ReadTo 1 BranchDone s left d e S₁ S₂
+    → Became f e.at (e.used + 1) e.positions e.marks → Put e.used 2 (d.used - 1) S₂ S' → ReadTo 1 BranchDone s left c f S S'
 item_and_rest h g b p = record {
   reading = cat h.reading g.reading;
   deep = max h.deep g.deep;
@@ -117,9 +117,8 @@ item_and_rest h g b p = record {
 
 -- ---- lists
 
-pub first_front : {s : List ℕ} {left : ℕ} {c d f : Cursor} {S S₁ : Stores} {ks' gs' : List ℕ} → ReadTo 1 BranchDone s left c d S S₁ → ByteAt s d.at 124
-    → Became f d.at (d.used + 1) d.positions (d.marks + 1) → Put d.used 4 0 S₁.kind S₁.arg ks' gs'
-    → ReadTo 0 FrontsAt s left c f S (stores ks' gs' S₁.word)
+pub first_front : {s : List ℕ} {left : ℕ} {c d f : Cursor} {S S₁ S' : Stores} → ReadTo 1 BranchDone s left c d S S₁ → ByteAt s d.at 124
+    → Became f d.at (d.used + 1) d.positions (d.marks + 1) → Put d.used 4 0 S₁ S' → ReadTo 0 FrontsAt s left c f S S'
 first_front h x b p = record {
   reading = branch h.reading;
   deep = h.deep;
@@ -132,7 +131,6 @@ first_front h x b p = record {
 -- where a list goes on: branches are read from c to d, a bar behind each, and d stands at the last of these bars
 pub record AtBar (s : List ℕ) (left : ℕ) (c d : Cursor) (S S' : Stores) : Type 0 where
   pub inside : Within (length s) d
-  pub room : Room S'
   pub bar : ByteAt s d.at 124
   pub reads : ReadTo 0 FrontsAt s left c d S S'
 
@@ -149,11 +147,11 @@ pub record Turned (s : List ℕ) (left : ℕ) (c d : Cursor) (S S' : Stores) : T
   pub moved : Moved 1 (length s) c d
   pub wrote : Wrote c d S S' (alt front (branch last))
 
-pub turned : {s : List ℕ} {left : ℕ} {c d d' e m f : Cursor} {S S₁ S₂ : Stores} {ks gs ks' gs' : List ℕ} → ReadTo 0 FrontsAt s left c d S S₁
+pub turned : {s : List ℕ} {left : ℕ} {c d d' e m f : Cursor} {S S₁ S₂ S₃ S' : Stores} → ReadTo 0 FrontsAt s left c d S S₁
     → Became d' (d.at + 1) d.used d.positions d.marks → ReadTo 1 BranchDone s left d' e S₁ S₂
-    → Became m e.at (e.used + 1) e.positions (e.marks + 1) → Put e.used 4 0 S₂.kind S₂.arg ks gs
-    → Became f m.at (m.used + 1) m.positions m.marks → Put m.used 3 (d.used - 1) ks gs ks' gs'
-    → Turned s left c f S (stores ks' gs' S₂.word)
+    → Became m e.at (e.used + 1) e.positions (e.marks + 1) → Put e.used 4 0 S₂ S₃
+    → Became f m.at (m.used + 1) m.positions m.marks → Put m.used 3 (d.used - 1) S₃ S'
+    → Turned s left c f S S'
 turned {d = d} h a g x p y q = record {
   front = h.reading;
   last = g.reading;
@@ -199,6 +197,10 @@ list_end {s} {i} {j} x e = rw e (go x)
     go (of_text l) n h = absurd (omega arith)
     go (by_bar g) n h = absurd (n (record { inside = h; is = g }))
     go (by_close g) n h = g
+
+-- and a list that ends before no ) ends with the text
+pub list_open : {s : List ℕ} {i : ℕ} → (i < length s → get_or s i 0 ≡ 41) → (ByteAt s i 41 → ⊥) → length s ≤ i
+list_open {s} {i} h n = let f : i < length s → ⊥ = λ l. n (record { inside = l; is = h l }) in omega arith
 
 -- ---- what is not read
 

@@ -14,11 +14,12 @@ use Rattle.grammar.specs.Place.{Stops, Reading, stops_mistake}
 use Rattle.grammar.specs.ByteRow.{bytes_of}
 use Rattle.grammar.specs.Contract.{ListDone, Fails, fails_deep, read_done, read_short}
 use Rattle.grammar.specs.Holds.{nodes_some, kinds_length, args_length, length_words}
-use Rattle.pattern.specs.Answers.{parts_of, Blank}
-use Rattle.pattern.specs.Stores.{bare_args, Stores, stores, Room, Became, Lies, Numberable, Numbers}
+use Rattle.pattern.specs.Answers.{pattern_parts, Blank}
+use Rattle.pattern.specs.Stores.{bare_args, Stores, stores, Became, Lies, Numberable, Numbers}
 use Rattle.pattern.specs.Parts.{ReadTo}
 use Rattle.pattern.specs.declared.nodes.Cursor.{Cursor}
-use Rattle.pattern.specs.declared.ReadPattern.{ReadPattern}
+use Rattle.kinds.specs.declared.ReadPattern.{ReadPattern}
+use Rattle.kinds.specs.Nodes.{kinds_of, args_of}
 use Rattle.pattern.proofs.Rows.{sets_stands, length_bare_args}
 
 -- ---- rows of zeros, written from the front on
@@ -63,10 +64,8 @@ pub record Whole (s : List ℕ) (d : Cursor) (S : Stores) : Type 0 where
   pub arg : S.arg ≡ sets (zeros 1024) 0 (bare_args 0 0 reading)
   pub word : S.word ≡ sets (zeros 256) 0 (words reading)
 
-pub room : {k a w : List ℕ} → Blank k a w → Room (stores k a w)
-room z = record { kinds = rw z.kinds (length_zeros 1024); args = rw z.args (length_zeros 1024); words = rw z.classes (length_zeros 256) }
-
-pub whole : {s k a w : List ℕ} {c d : Cursor} {S : Stores} → Blank k a w → Became c 0 0 0 0 → ReadTo 1 ListDone s 64 c d (stores k a w) S → Whole s d S
+pub whole : {s : List ℕ} {P : ReadPattern} {c d : Cursor} {S : Stores} → Blank P → Became c 0 0 0 0
+    → ReadTo 1 ListDone s 64 c d (stores P) S → Whole s d S
 whole z b h = record {
   reading = h.reading;
   deep = h.deep;
@@ -123,10 +122,10 @@ module _ {s : List ℕ} (short : length s ≤ 512) where
         pub numberable : d.marks ≤ 64 → Numberable S.kind S.arg (d.used - 1) 0
         numberable l = record { e = w.reading; u = 0; p = 0; lies = lies; few = omega (arith, l, w.marked) }
 
-        pub read_whole : {r : ReadPattern} {n : ℕ} → (l : d.marks ≤ 64) → r.kind ≡ S.kind → Numbers S.kind S.arg r.arg (d.used - 1) 0 n → r.class ≡ S.word
-            → r.nodes ≡ d.used → r.positions ≡ d.positions → r.marks ≡ d.marks → Read s 0 0 (parts_of r)
+        pub read_whole : (r : ReadPattern) {n : ℕ} → (l : d.marks ≤ 64) → kinds_of r.node ≡ S.kind → Numbers S.kind S.arg (args_of r.node) (d.used - 1) 0 n → r.class ≡ S.word
+            → r.nodes ≡ d.used → r.positions ≡ d.positions → r.marks ≡ d.marks → Read s 0 0 (pattern_parts r)
         unfolding read_pattern
-        read_whole {r} l k a c x y z = rw same (accepted all)
+        read_whole r l k a c x y z = rw same (accepted all)
           where
             all : Accepted s w.reading
             all = record {
@@ -138,7 +137,7 @@ module _ {s : List ℕ} (short : length s ≤ 512) where
               few_marks = omega (arith, l, w.marked);
             }
 
-            numbered : r.arg ≡ padded 1024 (args 0 0 0 w.reading)
+            numbered : args_of r.node ≡ padded 1024 (args 0 0 0 w.reading)
             numbered =
                 let bare = bare_args 0 0 w.reading in
                 let full = args 0 0 0 w.reading in
@@ -146,7 +145,7 @@ module _ {s : List ℕ} (short : length s ≤ 512) where
                 (a w.reading 0 0 lies).arg
                 ∙ written_twice 1024 bare full w.arg (long ∙ sym (args_length 0 0 0 w.reading)) (omega (arith, few_nodes, long))
 
-            same : parts_of r ≡ read_pattern w.reading
+            same : pattern_parts r ≡ read_pattern w.reading
             same =
                 rw (
                   k ∙ w.kind ∙ written_once 1024 (kinds w.reading) (omega (arith, few_nodes, kinds_length w.reading)),

@@ -4,12 +4,12 @@ use mathlib.Core.Bool.{Bool}
 use mathlib.Core.List.{List, [], ◌∷◌, ◌++◌}
 use Prim.Native.Nat.{ℕ, suc, ◌+◌, ◌-◌, ◌*◌}
 use native.Mathlib.Omega.{arith}
-use lib.ListN.{length, set, length-set}
-use lib.Seq.{sets, length-sets}
+use lib.ListN.{set}
+use lib.Seq.{sets}
 use Rattle.meaning.specs.Expression.{Re, eps, pos, cat, alt, branch, star, plus, opt, size, marks}
 use Rattle.meaning.specs.ReadPattern.{nodes, kinds, node_of, args, words}
 use Rattle.grammar.specs.Holds.{kinds_length, length_words}
-use Rattle.pattern.specs.Stores.{bare_args, Stores, stores, Room, Put, Became, Wrote}
+use Rattle.pattern.specs.Stores.{bare_args, Stores, with_words, Put, Became, Wrote}
 use Rattle.pattern.specs.declared.nodes.Cursor.{Cursor}
 use Rattle.pattern.proofs.Rows.{writes, length_bare_args}
 
@@ -61,18 +61,18 @@ both_alt x y = record { node = refl; place = refl; mark = refl; kind = refl; bar
 
 -- ---- what is written
 
-module _ {c f : Cursor} {S : Stores} {ks' gs' : List ℕ} {i : ℕ} where
-  pub wrote_eps : Became f i (c.used + 1) c.positions c.marks → Put c.used 0 0 S.kind S.arg ks' gs' → Wrote c f S (stores ks' gs' S.word) eps
+module _ {c f : Cursor} {S S' : Stores} {i : ℕ} where
+  pub wrote_eps : Became f i (c.used + 1) c.positions c.marks → Put c.used 0 0 S S' → Wrote c f S S' eps
   unfolding nodes size marks kinds bare_args words
-  wrote_eps b p = record { used = b.used; places = omega (arith, b.places); marked = omega (arith, b.marked); kind = p.kind; arg = p.arg; word = refl }
+  wrote_eps b p = record { used = b.used; places = omega (arith, b.places); marked = omega (arith, b.marked); kind = p.kind; arg = p.arg; word = p.word }
 
-  pub wrote_pos : {ws' : List ℕ} (g : ℕ → Bool) → Became f i (c.used + 1) (c.positions + 1) c.marks
-      → Put c.used 1 c.positions S.kind S.arg ks' gs' → ws' ≡ sets S.word (4 * c.positions) (words (pos g)) → Wrote c f S (stores ks' gs' ws') (pos g)
+  pub wrote_pos : {ws : List ℕ} (g : ℕ → Bool) → Became f i (c.used + 1) (c.positions + 1) c.marks
+      → Put c.used 1 c.positions (with_words S ws) S' → ws ≡ sets S.word (4 * c.positions) (words (pos g)) → Wrote c f S S' (pos g)
   unfolding nodes size marks kinds bare_args
-  wrote_pos g b p w = record { used = b.used; places = b.places; marked = omega (arith, b.marked); kind = p.kind; arg = p.arg; word = w }
+  wrote_pos g b p w = record { used = b.used; places = b.places; marked = omega (arith, b.marked); kind = p.kind; arg = p.arg; word = p.word ∙ w }
 
-pub wrote_over : {k : ℕ} {x e : Re} {c d f : Cursor} {S S₁ : Stores} {ks' gs' : List ℕ} {i : ℕ} → Over k x e → Wrote c d S S₁ x
-    → Became f i (d.used + 1) d.positions (d.marks + 1) → Put d.used k 0 S₁.kind S₁.arg ks' gs' → Wrote c f S (stores ks' gs' S₁.word) e
+pub wrote_over : {k : ℕ} {x e : Re} {c d f : Cursor} {S S₁ S' : Stores} {i : ℕ} → Over k x e → Wrote c d S S₁ x
+    → Became f i (d.used + 1) d.positions (d.marks + 1) → Put d.used k 0 S₁ S' → Wrote c f S S' e
 wrote_over {k} {x} {e} {c} {d} {f} {S} {S₁} o w b p = record {
   used = omega (arith, o.node, w.used, b.used);
   places = omega (arith, o.place, w.places, b.places);
@@ -82,12 +82,12 @@ wrote_over {k} {x} {e} {c} {d} {f} {S} {S₁} o w b p = record {
       let row = bare_args c.used c.positions x in
       rw (o.bare c.used c.positions)
       (writes S.arg c.used row (0 ∷ []) w.arg p.arg (omega (arith, w.used, length_bare_args c.used c.positions x)));
-  word = rw o.word w.word;
+  word = rw o.word (p.word ∙ w.word);
 }
 
-pub wrote_both : {k : ℕ} {x y e : Re} {c d m f : Cursor} {S S₁ S₂ : Stores} {ks' gs' : List ℕ} {i : ℕ} → Both k x y e → Wrote c d S S₁ x → Wrote d m S₁ S₂ y
-    → Became f i (m.used + 1) m.positions m.marks → Put m.used k (d.used - 1) S₂.kind S₂.arg ks' gs' → Wrote c f S (stores ks' gs' S₂.word) e
-wrote_both {k} {x} {y} {e} {c} {d} {m} {f} {S} {S₁} {S₂} {ks'} {gs'} o w v b p = record {
+pub wrote_both : {k : ℕ} {x y e : Re} {c d m f : Cursor} {S S₁ S₂ S' : Stores} {i : ℕ} → Both k x y e → Wrote c d S S₁ x → Wrote d m S₁ S₂ y
+    → Became f i (m.used + 1) m.positions m.marks → Put m.used k (d.used - 1) S₂ S' → Wrote c f S S' e
+wrote_both {k} {x} {y} {e} {c} {d} {m} {f} {S} {S₁} {S₂} {S'} o w v b p = record {
   used = omega (arith, o.node, w.used, v.used, b.used);
   places = omega (arith, o.place, w.places, v.places, b.places);
   marked = omega (arith, o.mark, w.marked, v.marked, b.marked);
@@ -105,7 +105,7 @@ wrote_both {k} {x} {y} {e} {c} {d} {m} {f} {S} {S₁} {S₂} {ks'} {gs'} o w v b
       (w.used ∙ ap (λ (n : ℕ). c.used + n) (sym (length_bare_args c.used c.positions x))));
   word =
       rw o.word
-      (writes S.word (4 * c.positions) (words x) (words y) w.word v.word (omega (arith, w.places, length_words x)));
+      (writes S.word (4 * c.positions) (words x) (words y) w.word (p.word ∙ v.word) (omega (arith, w.places, length_words x)));
 }
   where
     right : List ℕ
@@ -131,20 +131,4 @@ wrote_to b w = record {
   kind = w.kind;
   arg = w.arg;
   word = w.word;
-}
-
--- ---- the stores stay as long
-
-pub room_wrote : {c d : Cursor} {S S' : Stores} {e : Re} → Wrote c d S S' e → Room S → Room S'
-room_wrote {c} {d} {S} {S'} {e} w r = record {
-  kinds = ap length w.kind ∙ simp length-sets r.kinds;
-  args = ap length w.arg ∙ simp length-sets r.args;
-  words = ap length w.word ∙ simp length-sets r.words;
-}
-
-pub room_put : {S : Stores} {i k v : ℕ} {ks' gs' : List ℕ} → Put i k v S.kind S.arg ks' gs' → Room S → Room (stores ks' gs' S.word)
-room_put p r = record {
-  kinds = ap length p.kind ∙ simp length-set r.kinds;
-  args = ap length p.arg ∙ simp length-set r.args;
-  words = r.words;
 }

@@ -1,12 +1,14 @@
 -- What the readers of a list, a branch, an item and an atom say of themselves. Assumes nothing: these are definitions.
 use Rattle.std.specs.Prelude.{◌≡◌, Bool, true, false, List, ℕ, ◌+◌, ◌≤◌, ◌<◌, length, get_or}
+use Rattle.std.specs.declared.option.Option.{Option}
+use Rattle.std.specs.declared.option.Option.TheVariants.{Some, None}
 use Rattle.meaning.specs.Expression.{Re}
+use Rattle.kinds.specs.declared.Node.{Node}
+use Rattle.kinds.specs.declared.Node.TheVariants.{Star, Plus, Opt}
 use Rattle.grammar.specs.Machine.{Sign}
 use Rattle.grammar.specs.Contract.{AtomDone, ItemDone, ItemFails, BranchDone, FrontsDone, ListDone, ListFails}
-use Rattle.pattern.specs.Stores.{Stores, Room, Moved, Wrote}
+use Rattle.pattern.specs.Stores.{Stores, Moved, Wrote}
 use Rattle.pattern.specs.declared.nodes.Cursor.{Cursor}
-use Rattle.pattern.specs.declared.parts.Got.{Got}
-use Rattle.pattern.specs.declared.parts.Got.TheVariants.{Done, Failed}
 
 -- the byte b stands at i
 pub record ByteAt (s : List ℕ) (i b : ℕ) : Type 0 where
@@ -33,12 +35,12 @@ abbrev pub Going : List ℕ → ℕ → Bool → Type 0
 Going s i true = Goes s i
 Going s i false = End s i
 
--- the kind of node that the sign at i makes, and 0 for no sign
-pub data Signed (s : List ℕ) (i : ℕ) : ℕ → Type 0 where
-  star_at : ByteAt s i 42 → Signed s i 5
-  plus_at : ByteAt s i 43 → Signed s i 6
-  opt_at : ByteAt s i 63 → Signed s i 7
-  none_at : (i < length s → (f : Re → Re) → Sign (get_or s i 0) f → ⊥) → Signed s i 0
+-- the node that the sign at i makes, its mark not numbered, where there is a sign
+pub data Signed (s : List ℕ) (i : ℕ) : Option Node → Type 0 where
+  star_at : ByteAt s i 42 → Signed s i (Some (Star 0))
+  plus_at : ByteAt s i 43 → Signed s i (Some (Plus 0))
+  opt_at : ByteAt s i 63 → Signed s i (Some (Opt 0))
+  none_at : (i < length s → (f : Re → Re) → Sign (get_or s i 0) f → ⊥) → Signed s i None
 
 -- from c to d stands what is read as some expression, which was written, and which opens no more groups in each other than may be
 pub record ReadTo (k : ℕ) (D : List ℕ → ℕ → ℕ → Re → ℕ → Type 0) (s : List ℕ) (left : ℕ) (c d : Cursor) (S S' : Stores) : Type 0 where
@@ -53,18 +55,18 @@ pub record ReadTo (k : ℕ) (D : List ℕ → ℕ → ℕ → Re → ℕ → Typ
 abbrev pub FrontsAt : List ℕ → ℕ → ℕ → Re → ℕ → Type 0
 FrontsAt s i j e d = FrontsDone s i (j + 1) e d
 
-abbrev pub Atomed : List ℕ → ℕ → Cursor → Stores → Stores → Got → Type 0
-Atomed s left c S S' (Done d) = ReadTo 1 AtomDone s left c d S S'
-Atomed s left c S S' Failed = ItemFails s c.at left × Room S'
+abbrev pub Atomed : List ℕ → ℕ → Cursor → Stores → Stores → Option Cursor → Type 0
+Atomed s left c S S' (Some d) = ReadTo 1 AtomDone s left c d S S'
+Atomed s left c S S' None = ItemFails s c.at left
 
-abbrev pub Itemed : List ℕ → ℕ → Cursor → Stores → Stores → Got → Type 0
-Itemed s left c S S' (Done d) = ReadTo 1 ItemDone s left c d S S'
-Itemed s left c S S' Failed = ItemFails s c.at left × Room S'
+abbrev pub Itemed : List ℕ → ℕ → Cursor → Stores → Stores → Option Cursor → Type 0
+Itemed s left c S S' (Some d) = ReadTo 1 ItemDone s left c d S S'
+Itemed s left c S S' None = ItemFails s c.at left
 
-abbrev pub Branched : List ℕ → ℕ → Cursor → Stores → Stores → Got → Type 0
-Branched s left c S S' (Done d) = ReadTo 1 BranchDone s left c d S S' × End s d.at
-Branched s left c S S' Failed = ItemFails s c.at left × Room S'
+abbrev pub Branched : List ℕ → ℕ → Cursor → Stores → Stores → Option Cursor → Type 0
+Branched s left c S S' (Some d) = ReadTo 1 BranchDone s left c d S S' × End s d.at
+Branched s left c S S' None = ItemFails s c.at left
 
-abbrev pub Listed : List ℕ → ℕ → Cursor → Stores → Stores → Got → Type 0
-Listed s left c S S' (Done d) = ReadTo 1 ListDone s left c d S S' × (d.at < length s → get_or s d.at 0 ≡ 41)
-Listed s left c S S' Failed = ListFails s c.at left × Room S'
+abbrev pub Listed : List ℕ → ℕ → Cursor → Stores → Stores → Option Cursor → Type 0
+Listed s left c S S' (Some d) = ReadTo 1 ListDone s left c d S S' × (d.at < length s → get_or s d.at 0 ≡ 41)
+Listed s left c S S' None = ListFails s c.at left

@@ -1,11 +1,13 @@
 -- The stores of the nodes and the cursor: what is written for an expression. Assumes nothing: these are definitions.
-use Rattle.std.specs.Prelude.{◌≡◌, Bool, List, [], ◌∷◌, ◌++◌, ℕ, ◌+◌, ◌*◌, ◌≤◌, ◌<◌, length, set}
+use Rattle.std.specs.Prelude.{◌≡◌, Bool, List, [], ◌∷◌, ◌++◌, ℕ, ◌+◌, ◌*◌, ◌≤◌, ◌<◌, set}
 use Rattle.std.proofs.lemmas.List.Edits.{sets}
 use Rattle.meaning.specs.Expression.{Re, eps, pos, cat, alt, branch, star, plus, opt, marks, size}
 use Rattle.meaning.specs.ReadPattern.{nodes, kinds, node_of, words, args}
 use Rattle.grammar.specs.Holds.{Stands}
 use Rattle.sets.specs.declared.class.Class.{Class}
 use Rattle.sets.specs.Classes.{among}
+use Rattle.kinds.specs.declared.ReadPattern.{ReadPattern}
+use Rattle.kinds.specs.Nodes.{kinds_of, args_of}
 use Rattle.pattern.specs.declared.nodes.Cursor.{Cursor}
 
 -- The number beside each kind, with 0 in the place of each mark: a mark is numbered when the whole is read. k nodes and p positions stand
@@ -26,19 +28,18 @@ pub record Stores : Type 0 where
   pub arg : List ℕ
   pub word : List ℕ
 
-abbrev pub stores : List ℕ → List ℕ → List ℕ → Stores
-stores k a w = record { kind = k; arg = a; word = w }
+abbrev pub stores : ReadPattern → Stores
+stores P = record { kind = kinds_of P.node; arg = args_of P.node; word = P.class }
 
--- as many entries as a pattern can need
-pub record Room (S : Stores) : Type 0 where
-  pub kinds : length S.kind ≡ 1024
-  pub args : length S.arg ≡ 1024
-  pub words : length S.word ≡ 256
+-- the same with other words
+abbrev pub with_words : Stores → List ℕ → Stores
+with_words S w = record { kind = S.kind; arg = S.arg; word = w }
 
 -- entry i of the first two stores is now k and v
-pub record Put (i k v : ℕ) (ks gs ks' gs' : List ℕ) : Type 0 where
-  pub kind : ks' ≡ set ks i k
-  pub arg : gs' ≡ set gs i v
+pub record Put (i k v : ℕ) (S S' : Stores) : Type 0 where
+  pub kind : S'.kind ≡ set S.kind i k
+  pub arg : S'.arg ≡ set S.arg i v
+  pub word : S'.word ≡ S.word
 
 -- the class holds the bytes that the test holds of
 abbrev pub Tests : Class → (ℕ → Bool) → Type 0

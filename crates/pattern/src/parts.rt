@@ -1,205 +1,101 @@
 // A branch list, a branch, an item and an atom: four functions that call each other in a cycle. Each takes how many groups may still be
-// opened.
+// opened, and answers the cursor past what it read; or nothing, since there is a mistake or more groups are opened than may be.
 ghost use Rattle.std.specs.Prelude.{ℕ, ◌+◌, ◌<◌, length};
-ghost use Rattle.pattern.specs.Stores.{stores, Room, Within};
-ghost use Rattle.pattern.specs.Parts.{ByteAt, WhetherAt, Going, Signed, Atomed, Itemed, Branched, Listed};
+ghost use Rattle.pattern.specs.Stores.{stores, Within};
+ghost use Rattle.pattern.specs.Parts.{ByteAt, Signed, Atomed, Itemed, Branched, Listed};
 
-use super::letters::Past;
-use super::nodes::Cursor;
-use super::{letters, nodes};
+use super::letters::letter;
+use super::nodes::{Cursor, keep};
+use kinds::{Node, ReadPattern};
 
-// What was read up to the cursor; or nothing, since there is a mistake or more groups are opened than may be.
-#[derive(Clone, Copy)]
-pub enum Got {
-    Done(Cursor),
-    Failed,
-}
-
-// Whether the byte b stands at `at`.
-fn stands(p: &[u8], at: usize, b: u8) -> bool
-    ensures { WhetherAt p.now at b result }
-{
-    if at < p.len() {
-        if p[at] == b {
-            return true;
-        }
-    }
-    false
-}
-
-// Whether an item can start at `at`: there is a byte, and it ends no branch.
-fn goes_on(p: &[u8], at: usize) -> bool
-    ensures { Going p.now at result }
-{
-    if at < p.len() {
-        let b = p[at];
-        if b == b'|' {
-            return false;
-        }
-        if b == b')' {
-            return false;
-        }
-        return true;
-    }
-    false
-}
-
-// The kind of node for the sign at `at`, or 0 where none of * + ? is there.
-pub fn sign(p: &[u8], at: usize) -> u8
+// The node for the sign at `at`, where one of * + ? is there; its mark is numbered later.
+pub fn sign(p: &[u8], at: usize) -> Option<Node>
     ensures { Signed p.now at result }
 {
-    if at < p.len() {
-        let b = p[at];
-        if b == b'*' {
-            return kinds::STAR;
-        }
-        if b == b'+' {
-            return kinds::PLUS;
-        }
-        if b == b'?' {
-            return kinds::OPT;
-        }
+    match p.get(at)? {
+        b'*' => Some(Node::Star(0)),
+        b'+' => Some(Node::Plus(0)),
+        b'?' => Some(Node::Opt(0)),
+        _ => None,
     }
-    0
 }
 
-// An atom that is no group.
-fn single(
-    p: &[u8],
-    kind: &mut [u8; 1024],
-    arg: &mut [u16; 1024],
-    class: &mut [u64; 256],
-    c: Cursor,
-) -> Got
-    requires { Room (stores kind.old arg.old class.old) × Within (length p.now) c × (ByteAt p.now c.at 40 → ⊥) }
-    ensures { (left : ℕ) → Atomed p.now left c (stores kind.old arg.old class.old) (stores kind.new arg.new class.new) result }
+// An atom that is no group. It keeps its own frame, so that the frames of the cycle hold no class.
+#[inline(never)]
+fn single(p: &[u8], read: &mut ReadPattern, c: Cursor) -> Option<Cursor>
+    requires { Within (length p.now) c × (ByteAt p.now c.at 40 → ⊥) }
+    ensures { (left : ℕ) → Atomed p.now left c (stores read.old) (stores read.new) result }
 {
-    match letters::kept(p, c.at as usize, class, c.positions) {
-        Past::Not(_) => Got::Failed,
-        Past::To(next) => Got::Done(nodes::position(kind, arg, c, next as u16)),
-    }
+    let letter = letter(p, c.at as usize).ok()?;
+    keep(&mut read.class, c.positions, letter.class);
+    Some(c.position(read, letter.next as u16))
 }
 
 #[cycle(parts)]
-pub fn list(
-    p: &[u8],
-    kind: &mut [u8; 1024],
-    arg: &mut [u16; 1024],
-    class: &mut [u64; 256],
-    c: Cursor,
-    left: u16,
-) -> Got
-    requires { Room (stores kind.old arg.old class.old) × Within (length p.now) c }
-    ensures { Listed p.now left c (stores kind.old arg.old class.old) (stores kind.new arg.new class.new) result }
+pub fn list(p: &[u8], read: &mut ReadPattern, c: Cursor, left: u16) -> Option<Cursor>
+    requires { Within (length p.now) c }
+    ensures { Listed p.now left c (stores read.old) (stores read.new) result }
 {
-    match branch(p, kind, arg, class, c, left) {
-        Got::Failed => Got::Failed,
-        Got::Done(first) => {
-            if stands(p, first.at as usize, b'|') {
-                let mut d = nodes::marked(kind, arg, first, first.at, kinds::BRANCH);
-                loop {
-                    match branch(p, kind, arg, class, nodes::past(d), left) {
-                        Got::Failed => return Got::Failed,
-                        Got::Done(e) => {
-                            let m = nodes::marked(kind, arg, e, e.at, kinds::BRANCH);
-                            d = nodes::joined(kind, arg, d, m, kinds::ALT);
-                        }
-                    }
-                    if !stands(p, d.at as usize, b'|') {
-                        return Got::Done(d);
-                    }
-                }
-            } else {
-                Got::Done(first)
-            }
+    let first = branch(p, read, c, left)?;
+    if !first.stands(p, b'|') {
+        return Some(first);
+    }
+    let mut d = first.marked(read, first.at, Node::Branch(0));
+    loop {
+        let e = branch(p, read, d.past(), left)?;
+        let m = e.marked(read, e.at, Node::Branch(0));
+        d = m.joined(read, Node::Alt(d.used - 1));
+        if !d.stands(p, b'|') {
+            return Some(d);
         }
     }
 }
 
 // An item, and the rest of the branch where it goes on.
 #[cycle(parts)]
-fn branch(
-    p: &[u8],
-    kind: &mut [u8; 1024],
-    arg: &mut [u16; 1024],
-    class: &mut [u64; 256],
-    c: Cursor,
-    left: u16,
-) -> Got
-    requires { Room (stores kind.old arg.old class.old) × Within (length p.now) c }
-    ensures { Branched p.now left c (stores kind.old arg.old class.old) (stores kind.new arg.new class.new) result }
+fn branch(p: &[u8], read: &mut ReadPattern, c: Cursor, left: u16) -> Option<Cursor>
+    requires { Within (length p.now) c }
+    ensures { Branched p.now left c (stores read.old) (stores read.new) result }
 {
-    match item(p, kind, arg, class, c, left) {
-        Got::Failed => Got::Failed,
-        Got::Done(first) => {
-            if goes_on(p, first.at as usize) {
-                match branch(p, kind, arg, class, first, left) {
-                    Got::Failed => Got::Failed,
-                    Got::Done(rest) => {
-                        Got::Done(nodes::joined(kind, arg, first, rest, kinds::CAT))
-                    }
-                }
-            } else {
-                Got::Done(first)
-            }
-        }
+    let first = item(p, read, c, left)?;
+    if !first.goes_on(p) {
+        return Some(first);
+    }
+    let rest = branch(p, read, first, left)?;
+    Some(rest.joined(read, Node::Cat(first.used - 1)))
+}
+
+#[cycle(parts)]
+fn item(p: &[u8], read: &mut ReadPattern, c: Cursor, left: u16) -> Option<Cursor>
+    requires { Within (length p.now) c }
+    ensures { Itemed p.now left c (stores read.old) (stores read.new) result }
+{
+    let d = atom(p, read, c, left)?;
+    match sign(p, d.at as usize) {
+        Some(node) => Some(d.marked(read, d.at + 1, node)),
+        None => Some(d),
     }
 }
 
 #[cycle(parts)]
-fn item(
-    p: &[u8],
-    kind: &mut [u8; 1024],
-    arg: &mut [u16; 1024],
-    class: &mut [u64; 256],
-    c: Cursor,
-    left: u16,
-) -> Got
-    requires { Room (stores kind.old arg.old class.old) × Within (length p.now) c }
-    ensures { Itemed p.now left c (stores kind.old arg.old class.old) (stores kind.new arg.new class.new) result }
+fn atom(p: &[u8], read: &mut ReadPattern, c: Cursor, left: u16) -> Option<Cursor>
+    requires { Within (length p.now) c }
+    ensures { Atomed p.now left c (stores read.old) (stores read.new) result }
 {
-    match atom(p, kind, arg, class, c, left) {
-        Got::Failed => Got::Failed,
-        Got::Done(d) => {
-            let at = d.at;
-            let k = sign(p, at as usize);
-            if k == 0 {
-                return Got::Done(d);
-            }
-            Got::Done(nodes::marked(kind, arg, d, at + 1, k))
-        }
+    if !c.stands(p, b'(') {
+        return single(p, read, c);
     }
-}
-
-#[cycle(parts)]
-fn atom(
-    p: &[u8],
-    kind: &mut [u8; 1024],
-    arg: &mut [u16; 1024],
-    class: &mut [u64; 256],
-    c: Cursor,
-    left: u16,
-) -> Got
-    requires { Room (stores kind.old arg.old class.old) × Within (length p.now) c }
-    ensures { Atomed p.now left c (stores kind.old arg.old class.old) (stores kind.new arg.new class.new) result }
-{
-    let at = c.at as usize;
-    if stands(p, at, b'(') {
-        if left == 0 {
-            return Got::Failed;
-        }
-        if stands(p, at + 1, b')') {
-            return Got::Done(nodes::empty(kind, arg, c));
-        }
-        match list(p, kind, arg, class, nodes::past(c), left - 1) {
-            Got::Failed => return Got::Failed,
-            Got::Done(d) => {
-                if (d.at as usize) < p.len() {
-                    return Got::Done(nodes::past(d));
-                }
-                return Got::Failed;
-            }
-        }
+    if left == 0 {
+        return None;
     }
-    single(p, kind, arg, class, c)
+    let inner = c.past();
+    if inner.stands(p, b')') {
+        return Some(c.empty(read));
+    }
+    let d = list(p, read, inner, left - 1)?;
+    if d.stands(p, b')') {
+        Some(d.past())
+    } else {
+        None
+    }
 }

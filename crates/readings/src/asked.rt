@@ -1,37 +1,19 @@
 // What is asked, printed and handed on.
-use crate::answered::{SHORT, counted, line_two, number, say, show};
+use crate::answered::{SHORT, counted, row, show, tree_line};
 use lines::desk::{ROOM, desk_lines};
-use lines::print::word;
-use rows::{Row, row_of};
+use rows::{RowError, row_of};
 use std::io;
+use std::io::{Cursor, Write};
 use tree::first_tree::first_tree;
-use tree::outcome::{number as number_of, value};
-use turns::turns;
 
-// Bytes of the longest pattern or text, and what is lent unless a line says otherwise: enough for `a*` and 4,096 letters.
+// Bytes of the longest pattern that is built, and what is lent unless a line says otherwise: enough for `a*` and 4,096 letters.
 const LONG: usize = 8192;
 
 const CELLS: usize = 4097;
 
 const TOKENS: usize = 12288;
 
-fn quoted(rt: &impl Print, w: &[u8]) -> io::Result<()> {
-    say(rt, b"\"")?;
-    say(rt, w)?;
-    say(rt, b"\"")
-}
-
-pub fn labelled(rt: &impl Print, label: &[u8], w: &[u8]) -> io::Result<()> {
-    say(rt, label)?;
-    quoted(rt, w)
-}
-
-pub fn amount(rt: &impl Print, label: &[u8], n: usize) -> io::Result<()> {
-    say(rt, label)?;
-    number(rt, n)
-}
-
-fn answer(
+fn judged(
     rt: &impl Print,
     pattern: &[u8],
     text: &[u8],
@@ -42,199 +24,98 @@ fn answer(
     show(rt, got, room)
 }
 
-// With the first cells and the first tokens of what is there.
-fn lend(
-    rt: &impl Print,
-    pattern: &[u8],
-    text: &[u8],
-    work: &mut [u64],
-    cells: usize,
-    room: &mut [u16],
-    tokens: usize,
-) -> io::Result<()> {
-    if cells <= work.len() {
-        if tokens <= room.len() {
-            answer(rt, pattern, text, &mut work[..cells], &mut room[..tokens])?;
-        }
-    }
-    Ok(())
+// With all that is lent.
+fn ample(rt: &impl Print, pattern: &[u8], text: &[u8]) -> io::Result<()> {
+    judged(rt, pattern, text, &mut [0; CELLS], &mut [0; TOKENS])
 }
 
-fn judged(
-    rt: &impl Print,
-    pattern: &[u8],
-    text: &[u8],
-    cells: usize,
-    tokens: usize,
-) -> io::Result<()> {
-    let mut work = [0u64; CELLS];
-    let mut room = [0u16; TOKENS];
-    lend(rt, pattern, text, &mut work, cells, &mut room, tokens)
+pub fn plain(rt: &impl Print, pattern: &str, text: &str) -> io::Result<()> {
+    println!(rt; "\"{pattern}\" on \"{text}\"")?;
+    ample(rt, pattern.as_bytes(), text.as_bytes())
 }
 
-// With the first m bytes as the pattern and the first n as the text.
-fn first_bytes(rt: &impl Print, pattern: &[u8], m: usize, text: &[u8], n: usize) -> io::Result<()> {
-    if m <= pattern.len() {
-        if n <= text.len() {
-            judged(rt, &pattern[..m], &text[..n], CELLS, TOKENS)?;
-        }
-    }
-    Ok(())
+// On a text of letters a.
+pub fn on_letters(rt: &impl Print, pattern: &str, text: &[u8]) -> io::Result<()> {
+    println!(rt; "\"{pattern}\" on {} letters a", text.len())?;
+    ample(rt, pattern.as_bytes(), text)
 }
 
-fn on_letters(rt: &impl Print, pattern: &[u8; LONG], end: usize, n: usize) -> io::Result<()> {
-    let text = [b'a'; LONG];
-    first_bytes(rt, pattern, end, &text, n)
-}
-
-fn say_letters(rt: &impl Print, n: usize) -> io::Result<()> {
-    amount(rt, b" on ", n)?;
-    say(rt, b" letters a\n")
-}
-
-fn add(out: &mut [u8; LONG], at: usize, w: &[u8]) -> usize {
-    if at <= LONG {
-        if w.len() <= LONG {
-            return word(out, at, w);
-        }
-    }
-    at
-}
-
-// The bytes k times, from `at` on: where they end.
-fn times(out: &mut [u8; LONG], at: usize, w: &[u8], k: usize) -> usize {
-    let mut to = at;
-    let mut i = 0;
-    while i < k {
-        to = add(out, to, w);
-        i += 1;
-    }
-    to
-}
-
-fn built(open: &[u8], core: &[u8], close: &[u8], k: usize, out: &mut [u8; LONG]) -> usize {
-    let opened = times(out, 0, open, k);
-    let filled = times(out, opened, core, 1);
-    times(out, filled, close, k)
-}
-
-pub fn plain(rt: &impl Print, pattern: &[u8], text: &[u8]) -> io::Result<()> {
-    quoted(rt, pattern)?;
-    labelled(rt, b" on ", text)?;
-    say(rt, b"\n")?;
-    judged(rt, pattern, text, CELLS, TOKENS)
-}
-
-pub fn letters(rt: &impl Print, pattern: &[u8], n: usize) -> io::Result<()> {
-    quoted(rt, pattern)?;
-    say_letters(rt, n)?;
-    let text = [b'a'; LONG];
-    first_bytes(rt, pattern, pattern.len(), &text, n)
-}
-
-// `open` k times, `core`, and `close` k times, on n letters a.
+// `open` k times, `core`, and `close` k times, on a text of letters a.
 pub fn grown(
     rt: &impl Print,
-    open: &[u8],
-    core: &[u8],
-    close: &[u8],
+    open: &str,
+    core: &str,
+    close: &str,
     k: usize,
-    n: usize,
+    text: &[u8],
 ) -> io::Result<()> {
-    number(rt, k)?;
-    labelled(rt, b" times ", open)?;
-    labelled(rt, b", ", core)?;
-    labelled(rt, b", as often ", close)?;
-    say_letters(rt, n)?;
-    let mut pattern = [0u8; LONG];
-    let end = built(open, core, close, k, &mut pattern);
-    on_letters(rt, &pattern, end, n)
+    print!(rt; "{k} times \"{open}\", \"{core}\", as often \"{close}\"")?;
+    println!(rt; " on {} letters a", text.len())?;
+    let mut pattern = Cursor::new([0u8; LONG]);
+    for _ in 0..k {
+        pattern.write_all(open.as_bytes())?;
+    }
+    pattern.write_all(core.as_bytes())?;
+    for _ in 0..k {
+        pattern.write_all(close.as_bytes())?;
+    }
+    let end = pattern.position() as usize;
+    match pattern.get_ref().get(..end) {
+        Some(pattern) => ample(rt, pattern, text),
+        None => Ok(()),
+    }
 }
 
-// With so many cells and so much room.
+// With these cells and this room.
 pub fn lent(
     rt: &impl Print,
-    pattern: &[u8],
-    text: &[u8],
-    cells: usize,
-    tokens: usize,
+    pattern: &str,
+    text: &str,
+    cells: &mut [u64],
+    room: &mut [u16],
 ) -> io::Result<()> {
-    quoted(rt, pattern)?;
-    labelled(rt, b" on ", text)?;
-    amount(rt, b", cells ", cells)?;
-    amount(rt, b", room ", tokens)?;
-    say(rt, b"\n")?;
-    judged(rt, pattern, text, cells, tokens)
+    print!(rt; "\"{pattern}\" on \"{text}\"")?;
+    println!(rt; ", cells {}, room {}", cells.len(), room.len())?;
+    judged(rt, pattern.as_bytes(), text.as_bytes(), cells, room)
 }
 
 // The turns of a mark in a row that no tree has.
 pub fn row_turned(rt: &impl Print, mark: usize) -> io::Result<()> {
-    let row = [1u16, 1, 353, 129, 1, 353];
-    amount(rt, b"turns of mark ", mark)?;
-    say(rt, b" in\n")?;
-    line_two(rt, &row, row.len())?;
-    counted(rt, turns(&row, mark))
-}
-
-// In the first n tokens.
-fn turns_in(rt: &impl Print, row: &[u16], n: usize, mark: usize) -> io::Result<()> {
-    if n <= row.len() {
-        counted(rt, turns(&row[..n], mark))?;
-    }
-    Ok(())
-}
-
-fn tree_turned(
-    rt: &impl Print,
-    pattern: &[u8],
-    text: &[u8],
-    mark: usize,
-    cells: &mut [u64],
-    room: &mut [u16],
-) -> io::Result<()> {
-    let got = first_tree(pattern, text, cells, room);
-    if number_of(got) == 0 {
-        let length = value(got);
-        line_two(rt, room, length)?;
-        turns_in(rt, room, length, mark)?;
-    }
-    Ok(())
+    println!(rt; "turns of mark {mark} in")?;
+    counted(rt, &[1, 1, 353, 129, 1, 353], mark)
 }
 
 // The turns of a mark in the first tree.
-pub fn turned(rt: &impl Print, pattern: &[u8], text: &[u8], mark: usize) -> io::Result<()> {
-    amount(rt, b"turns of mark ", mark)?;
-    labelled(rt, b" of ", pattern)?;
-    labelled(rt, b" on ", text)?;
-    say(rt, b"\n")?;
-    let mut cells = [0u64; CELLS];
+pub fn turned(rt: &impl Print, pattern: &str, text: &str, mark: usize) -> io::Result<()> {
+    println!(rt; "turns of mark {mark} of \"{pattern}\" on \"{text}\"")?;
     let mut room = [0u16; TOKENS];
-    tree_turned(rt, pattern, text, mark, &mut cells, &mut room)
+    let got = first_tree(
+        pattern.as_bytes(),
+        text.as_bytes(),
+        &mut [0; CELLS],
+        &mut room,
+    );
+    match row(got, &room) {
+        Some(row) => counted(rt, row, mark),
+        None => Ok(()),
+    }
 }
 
 // The whole desk on an input.
-pub fn desk(rt: &impl Print, input: &[u8]) -> io::Result<()> {
+pub fn desk(rt: &impl Print, input: &str) -> io::Result<()> {
+    println!(rt; "the desk on\n{input}")?;
     let mut out = [0u8; ROOM];
-    say(rt, b"the desk on\n")?;
-    say(rt, input)?;
-    say(rt, b"\n")?;
-    let end = desk_lines(input, &mut out);
-    say(rt, &out[..end])
-}
-
-fn too_long(rt: &impl Print, n: usize) -> io::Result<()> {
-    amount(rt, b"too long: ", n)?;
-    say(rt, b"\n")
+    let end = desk_lines(input.as_bytes(), &mut out);
+    rt.write_all(&out[..end])
 }
 
 // A TREE line, read back and printed again.
-pub fn back(rt: &impl Print, line: &[u8]) -> io::Result<()> {
+pub fn back(rt: &impl Print, line: &str) -> io::Result<()> {
+    println!(rt; "read back \"{line}\"")?;
     let mut room = [0u16; SHORT];
-    labelled(rt, b"read back ", line)?;
-    say(rt, b"\n")?;
-    match row_of(line, &mut room) {
-        Row::Tokens(n) => line_two(rt, &room, n),
-        Row::SmallRoom(n) => too_long(rt, n),
-        Row::NoRow => say(rt, b"no row\n"),
+    match row_of(line.as_bytes(), &mut room) {
+        Ok(n) => tree_line(rt, &room[..n]),
+        Err(RowError::SmallRoom(n)) => println!(rt; "too long: {n}"),
+        Err(RowError::NoRow) => println!(rt; "no row"),
     }
 }

@@ -1,14 +1,21 @@
 -- With what the rest of a line begins. Assumes nothing.
 use mathlib.Core.Path.{◌≡◌, sym, ap, ◌∙◌}
+use mathlib.Core.Bool.{Bool, true, false}
 use mathlib.Core.List.{List, [], ◌∷◌, ◌++◌, append_assoc}
 use Prim.Native.Nat.{ℕ, ◌+◌, ◌-◌, ◌≤◌, ◌<◌}
 use native.Mathlib.Omega.{arith}
 use lib.ListN.{length, take, drop, get_or, length-append, length-drop, take-append-drop}
 use lib.Seq.{take_all, take-append_seam, drop-append_seam}
 use Rattle.meaning.specs.Desk.{token, tokens}
-use Rattle.lines.specs.Parts.{Headed}
+use Rattle.std.specs.Prelude.{Result, Ok, Err, Some, None}
+use Rattle.std.specs.Result.{OkIff, result_ok}
+use Rattle.std.specs.Bool.{then_some}
+use Rattle.lines.specs.Parts.{Headed, Said}
+use Rattle.lines.specs.Wrote.{Wrote}
+use Rattle.lines.proofs.WroteLaws.{wrote_back}
 use Rattle.rows.specs.Rows.{Below, more}
-use Rattle.rows.specs.Front.{NumberIn, base, Rest, Begins}
+use Rattle.rows.specs.declared.Front.TheVariants.{Token}
+use Rattle.rows.specs.Front.{NumberIn, base, Rest, Begins, FrontOf}
 use Rattle.lines.proofs.PartsLaws.{headed_long}
 use Rattle.rows.proofs.NumberLaws.{token_in, token_front, rest_stops, token_read}
 
@@ -50,17 +57,7 @@ pub rest_end : {s : List ℕ} → Rest s [] → s ≡ 10 ∷ []
 unfolding tokens
 rest_end r = r.is
 
--- ---- at most one byte
-
-module _ (s : List ℕ) (h : length s < 2) where
-  pub end_here : Headed s (10 ∷ []) → s ≡ 10 ∷ []
-  end_here e = sym (take_all 1 s (omega arith)) ∙ e
-
-  pub end_none : (Headed s (10 ∷ []) → ⊥) → (row : List ℕ) → Rest s row → ⊥
-  end_none n [] r = n (rw (rest_end r))
-  end_none n (t ∷ row) r = absurd (omega (arith, rest_long r))
-
--- ---- more bytes
+-- ---- a rest that is no line end
 
 -- n is the token that s seems to begin with, where that has sixteen bits
 abbrev pub Guess : List ℕ → ℕ → Type 0
@@ -98,3 +95,25 @@ module _ (s : List ℕ) (n : ℕ) (h : 2 ≤ length s) (g : Guess s n) where
       only : ((row : List ℕ) → Rest (drop k s) row → ⊥) → (row : List ℕ) → Rest s row → ⊥
       only o [] r = omega (arith, ap length (rest_end r))
       only o (t ∷ row) r = o row (rw (e, guessed t row r) (rest_behind r))
+
+-- ---- the token that is printed and compared
+
+-- a number that is read as sixteen bits, or has more
+pub read_fits : {E P : Type 0} (v : ℕ) (r : Result ℕ E) {t : ℕ} → OkIff r P v → result_ok r ≡ Some t → P × (v ≡ t)
+read_fits v (Ok x) o e = let e' = o.1 in (o.0, (cc))
+read_fits v (Err d) o e = absurd (cc)
+
+pub read_none : {E P : Type 0} (v : ℕ) (r : Result ℕ E) → OkIff r P v → result_ok r ≡ None → P → ⊥
+read_none v (Ok x) o e = absurd (cc)
+read_none v (Err d) o e = o
+
+-- what was printed stands in s, or not
+module _ (s : List ℕ) {t k : ℕ} (h : 2 ≤ length s) (g : Guess s t) (f : t < 65536) where
+  pub front_printed : (b : Bool) {bytes bytes' : List ℕ} {r : ℕ} → Said b (Headed s (take k bytes')) → k ≡ r → Wrote bytes 0 (token t) bytes' r → r ≤ length bytes
+      → FrontOf s (then_some b (Token t k))
+  front_printed true {bytes' = bytes'} {r = r} p e w room =
+      let q : take k bytes' ≡ token t = rw e (wrote_back r w (omega arith) room) in
+      begins s t h g k f (omega (arith, w.moved)) (rw q at p)
+  front_printed false {bytes' = bytes'} {r = r} p e w room =
+      let q : take k bytes' ≡ token t = rw e (wrote_back r w (omega arith) room) in
+      none_other s t h g (rw q at p)

@@ -10,6 +10,8 @@ use lib.Dec.{ltb}
 use lib.ListN.{length, drop, get_or, drop_of_length-le}
 use lib.Seq.{drop-cons}
 use borrow.Author.Tests.{lt-ltb, le-ltb, ltb-true, ltb-false}
+use Rattle.std.specs.Char.{IsNotAsciiDigit}
+use Rattle.std.proofs.Common.{inl, inr}
 use Rattle.meaning.specs.Desk.{digits, token, tokens}
 use Rattle.rows.specs.Front.{number_on, NumberIn, base}
 use Rattle.lines.proofs.DeskLaws.{token_opens, token_closes, token_byte}
@@ -54,11 +56,9 @@ module _ (s : List ℕ) (v i : ℕ) (p : Sofar s v i) where
   stopped : number_on v (drop i s) ≡ v → NumberIn s v
   stopped e = record { exact = λ h. omega (arith, p.on, e); small = p.small }
 
-  pub sofar_low : i < length s → get_or s i 0 < 48 → NumberIn s v
-  sofar_low h l = stopped (rw (drop-cons s i 0 h) (number_low v _ _ l))
-
-  pub sofar_high : i < length s → 57 < get_or s i 0 → NumberIn s v
-  sofar_high h l = stopped (rw (drop-cons s i 0 h) (number_high v _ _ l))
+  pub sofar_other : i < length s → IsNotAsciiDigit (get_or s i 0) → NumberIn s v
+  sofar_other h (inl l) = stopped (rw (drop-cons s i 0 h) (number_low v _ _ l))
+  sofar_other h (inr l) = stopped (rw (drop-cons s i 0 h) (number_high v _ _ l))
 
   pub sofar_big : 65535 < v → NumberIn s v
   sofar_big h = record { exact = λ l. absurd (omega (arith, number_grows (drop i s) v, p.on)); small = p.small }
@@ -125,7 +125,6 @@ module _ (t : ℕ) (u : List ℕ) (h : t < 65536) (stops : Stops u) where
   lettered l n f z e = rw (e, number_digits 20 n u (omega arith), stops n) z
 
   pub token_read : token_in (token t ++ u) ≡ t
-  unfolding base
   token_read = go (ltb t 128) (ltb t 256) refl refl
     where
       go : (a b : Bool) → ltb t 128 ≡ a → ltb t 256 ≡ b → token_in (token t ++ u) ≡ t

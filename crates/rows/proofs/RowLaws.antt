@@ -4,14 +4,14 @@ use mathlib.Core.List.{List, [], ◌∷◌, ◌++◌, append_assoc}
 use Prim.Native.Nat.{ℕ, ◌+◌, ◌≤◌, ◌<◌}
 use native.Mathlib.Omega.{arith}
 use lib.ListN.{length, take, drop, set, length-append, length-drop, take-append-drop}
-use lib.Seq.{sets, length-sets, drop-drop}
+use lib.Seq.{sets, length-sets}
 use Rattle.bits.proofs.Writing.{sets_then, sets_front}
 use Rattle.meaning.specs.Promise.{written}
 use Rattle.meaning.specs.Desk.{token, tokens, tree_line}
-use Rattle.rows.specs.declared.Found.{Found}
-use Rattle.rows.specs.declared.Found.TheVariants.{Count, Nothing}
-use Rattle.rows.specs.declared.Row.{Row}
-use Rattle.rows.specs.declared.Row.TheVariants.{Tokens, SmallRoom}
+use Rattle.std.specs.Prelude.{Option, Some, None, Result, Ok, Err}
+use Rattle.std.specs.Option.{ok_or}
+use Rattle.rows.specs.declared.RowError.{RowError}
+use Rattle.rows.specs.declared.RowError.TheVariants.{SmallRoom}
 use Rattle.lines.specs.Parts.{Headed}
 use Rattle.lines.specs.Wrote.{Wrote}
 use Rattle.rows.specs.Rows.{Below, none, more, Line, RowOf}
@@ -26,42 +26,38 @@ below_last : {row : List ℕ} {t : ℕ} → Below row → t < 65536 → Below (r
 below_last none h = more h none
 below_last (more g b) h = more g (below_last b h)
 
--- the first i bytes are n tokens, put into the room as far as it goes; s is no rest of a line if what is left is none
-pub record Past (s room : List ℕ) (i n : ℕ) (room' : List ℕ) : Type 0 where
+-- what stands before the rest is n tokens, put into the room as far as it goes; s is no rest of a line if the rest is none
+pub record Past (s room rest : List ℕ) (n : ℕ) (room' : List ℕ) : Type 0 where
   pub done : List ℕ
   pub below : Below done
-  pub is : s ≡ tokens done ++ drop i s
+  pub is : s ≡ tokens done ++ rest
   pub counted : n ≡ length done
   pub put : room' ≡ sets room 0 done
-  pub few : n ≤ i
-  pub within : i ≤ length s
-  pub only : ((row : List ℕ) → Rest (drop i s) row → ⊥) → (row : List ℕ) → Rest s row → ⊥
+  pub few : n + length rest ≤ length s
+  pub only : ((row : List ℕ) → Rest rest row → ⊥) → (row : List ℕ) → Rest s row → ⊥
 
-pub past_none : (s room : List ℕ) → Past s room 0 0 room
+pub past_none : (s room : List ℕ) → Past s room s 0 room
 unfolding tokens
-past_none s room = record { done = []; below = none; is = refl; counted = refl; put = refl; few = omega arith; within = omega arith; only = λ f. f }
+past_none s room = record { done = []; below = none; is = refl; counted = refl; put = refl; few = omega arith; only = λ f. f }
 
-module _ (s room : List ℕ) (i n : ℕ) (room' : List ℕ) (p : Past s room i n room') where
+module _ {s room rest : List ℕ} {n : ℕ} {room' : List ℕ} (p : Past s room rest n room') where
   pub past_kept : length room' ≡ length room
   past_kept = ap length p.put ∙ length-sets room 0 p.done
 
-  pub past_more : (t k : ℕ) (room'' : List ℕ) → Begins (drop i s) t k → room'' ≡ set room' n t → Past s room (i + k) (n + 1) room''
-  past_more t k room'' b e =
-      let z : drop k (drop i s) ≡ drop (i + k) s = drop-drop k i s in
+  pub past_more : (t k : ℕ) {room'' : List ℕ} → Begins rest t k → room'' ≡ set room' n t → Past s room (drop k rest) (n + 1) room''
+  past_more t k b e =
       let n' : n ≡ 0 + length p.done = omega (arith, p.counted) in
       record {
         done = p.done ++ (t ∷ []);
         below = below_last p.below b.fits;
-        is = p.is ∙ ap (λ (l : List ℕ). tokens p.done ++ l) b.is ∙ sym (append_assoc (tokens p.done) (token t) (drop k (drop i s)))
-            ∙ (rw (tokens_last p.done t, z));
+        is = p.is ∙ ap (λ (l : List ℕ). tokens p.done ++ l) b.is ∙ sym (append_assoc (tokens p.done) (token t) (drop k rest)) ∙ (rw (tokens_last p.done t));
         counted = rw length-append (omega (arith, p.counted));
         put = e ∙ (rw (p.put, n') (sets_then room 0 p.done (t ∷ [])));
-        few = omega (arith, p.few, b.some);
-        within = omega (arith, p.within, b.within, length-drop i s);
-        only = λ f. p.only (b.only (rw (← z) at f));
+        few = omega (arith, p.few, b.some, b.within, length-drop k rest);
+        only = λ f. p.only (b.only f);
       }
 
-  pub past_end : drop i s ≡ 10 ∷ [] → Put (Rest s) room n room'
+  pub past_end : rest ≡ 10 ∷ [] → Put (Rest s) room n room'
   past_end e = record {
     row = p.done;
     is = record { below = p.below; is = p.is ∙ ap (λ (l : List ℕ). tokens p.done ++ l) e };
@@ -87,9 +83,9 @@ module _ (line : List ℕ) (h : Headed line word_tree) where
   unfolding tree_line
   rest_line {row} r = record { below = r.below; is = sym (take-append-drop 4 line) ∙ (rw (h, r.is)) }
 
-  pub found_line : (room : List ℕ) (f : Found) (room' : List ℕ) → Finds (Rest (drop 4 line)) room f room' → Finds (Line line) room f room'
-  found_line room (Count n) room' p = record { row = p.row; is = rest_line p.is; counted = p.counted; put = p.put }
-  found_line room Nothing room' p = λ row l. p row (line_rest l)
+  pub found_line : (room : List ℕ) (f : Option ℕ) (room' : List ℕ) → Finds (Rest (drop 4 line)) room f room' → Finds (Line line) room f room'
+  found_line room (Some n) room' p = record { row = p.row; is = rest_line p.is; counted = p.counted; put = p.put }
+  found_line room None room' p = λ row l. p row (line_rest l)
 
 -- ---- one row for each line
 
@@ -111,28 +107,33 @@ tree_line_one b b' e = line_one (record { below = b; is = refl }) (record { belo
 
 -- ---- the room
 
+-- where `ok_or` answers an error, there was no value
+pub no_value : {T E : Type 0} (o : Option T) (e d : E) → ok_or o e ≡ Err d → (o ≡ None) × (e ≡ d)
+no_value None e d p = (refl, (cc))
+no_value (Some x) e d p = absurd (cc)
+
 module _ {line spare : List ℕ} {n : ℕ} {spare' : List ℕ} (room : List ℕ) (p : Put (Line line) spare n spare') where
-  pub row_small : length room < n → RowOf line room (SmallRoom n) room
+  pub row_small : length room < n → RowOf line room (Err (SmallRoom n)) room
   row_small h = rw p.counted (RowOf.small_room p.is (omega (arith, p.counted)))
 
-  filled : (f : Found) (room' : List ℕ) → Finds (Line line) room f room' → room' ≡ sets room 0 p.row
-  filled (Count m) room' q = q.put ∙ ap (sets room 0) (line_one q.is p.is)
-  filled Nothing room' q = absurd (q p.row p.is)
+  filled : (f : Option ℕ) (room' : List ℕ) → Finds (Line line) room f room' → room' ≡ sets room 0 p.row
+  filled (Some m) room' q = q.put ∙ ap (sets room 0) (line_one q.is p.is)
+  filled None room' q = absurd (q p.row p.is)
 
-  pub row_held : (f : Found) (room' : List ℕ) → n ≤ length room → Finds (Line line) room f room' → RowOf line room (Tokens n) room'
+  pub row_held : (f : Option ℕ) (room' : List ℕ) → n ≤ length room → Finds (Line line) room f room' → RowOf line room (Ok n) room'
   row_held f room' h q =
       let fits : length p.row ≤ length room = omega (arith, p.counted) in
       rw (filled f room' q, sets_front room p.row fits, p.counted) (RowOf.tokens p.is fits)
 
 -- ---- one outcome
 
-pub row_of_one : {line room room' room'' : List ℕ} {r r' : Row} → RowOf line room r room' → RowOf line room r' room'' → (r ≡ r') × (room' ≡ room'')
+pub row_of_one : {line room room' room'' : List ℕ} {r r' : Result ℕ RowError} → RowOf line room r room' → RowOf line room r' room'' → (r ≡ r') × (room' ≡ room'')
 row_of_one {room} (RowOf.tokens l h) (RowOf.tokens l' h') =
-    let e = line_one l l' in (ap (λ (x : List ℕ). Tokens (length x)) e, ap (λ (x : List ℕ). written x room) e)
+    let e = line_one l l' in (ap (λ (x : List ℕ). Ok (length x)) e, ap (λ (x : List ℕ). written x room) e)
 row_of_one (RowOf.tokens l h) (RowOf.small_room l' h') = absurd (omega (arith, ap length (line_one l l')))
 row_of_one (RowOf.tokens l h) (RowOf.no_row never) = absurd (never _ l)
 row_of_one (RowOf.small_room l h) (RowOf.tokens l' h') = absurd (omega (arith, ap length (line_one l l')))
-row_of_one (RowOf.small_room l h) (RowOf.small_room l' h') = (ap (λ (x : List ℕ). SmallRoom (length x)) (line_one l l'), refl)
+row_of_one (RowOf.small_room l h) (RowOf.small_room l' h') = (ap (λ (x : List ℕ). Err (SmallRoom (length x))) (line_one l l'), refl)
 row_of_one (RowOf.small_room l h) (RowOf.no_row never) = absurd (never _ l)
 row_of_one (RowOf.no_row never) (RowOf.tokens l h) = absurd (never _ l)
 row_of_one (RowOf.no_row never) (RowOf.small_room l h) = absurd (never _ l)
@@ -141,7 +142,7 @@ row_of_one (RowOf.no_row never) (RowOf.no_row never') = (refl, refl)
 -- ---- what was printed is read back
 
 -- a TREE line that the printer put into `out`, which holds its n bytes
-pub round_trip : {out out' row room room' : List ℕ} {at k : ℕ} {r : Row} (n : ℕ) → Below row
+pub round_trip : {out out' row room room' : List ℕ} {at k : ℕ} {r : Result ℕ RowError} (n : ℕ) → Below row
     → Wrote out at (tree_line row) out' k → k ≡ at + n → k ≤ length out
-    → length row ≤ length room → RowOf (take n (drop at out')) room r room' → (r ≡ Tokens (length row)) × (room' ≡ written row room)
+    → length row ≤ length room → RowOf (take n (drop at out')) room r room' → (r ≡ Ok (length row)) × (room' ≡ written row room)
 round_trip n b w e h f p = row_of_one p (RowOf.tokens (record { below = b; is = wrote_back n w e h }) f)

@@ -1,9 +1,9 @@
 -- A TREE line read back: which row it holds, and what is left in the room. Assumes nothing: these are definitions.
-use Rattle.std.specs.Prelude.{◌≡◌, List, [], ◌∷◌, ℕ, ◌≤◌, ◌<◌, length}
+use Rattle.std.specs.Prelude.{◌≡◌, List, [], ◌∷◌, ℕ, ◌≤◌, ◌<◌, length, Result, Ok, Err}
 use Rattle.meaning.specs.Promise.{written}
 use Rattle.meaning.specs.Desk.{tree_line}
-use Rattle.rows.specs.declared.Row.{Row}
-use Rattle.rows.specs.declared.Row.TheVariants.{Tokens, SmallRoom, NoRow}
+use Rattle.rows.specs.declared.RowError.{RowError}
+use Rattle.rows.specs.declared.RowError.TheVariants.{SmallRoom, NoRow}
 
 -- a row of numbers of sixteen bits
 pub data Below : List ℕ → Type 0 where
@@ -16,7 +16,7 @@ pub record Line (line row : List ℕ) : Type 0 where
   pub is : line ≡ tree_line row
 
 -- of this line and this room: the result, and the room afterwards
-pub data RowOf (line room : List ℕ) : Row → List ℕ → Type 0 where
-  tokens : {row : List ℕ} → Line line row → length row ≤ length room → RowOf line room (Tokens (length row)) (written row room)
-  small_room : {row : List ℕ} → Line line row → length room < length row → RowOf line room (SmallRoom (length row)) room
-  no_row : ((row : List ℕ) → Line line row → ⊥) → RowOf line room NoRow room
+pub data RowOf (line room : List ℕ) : Result ℕ RowError → List ℕ → Type 0 where
+  tokens : {row : List ℕ} → Line line row → length row ≤ length room → RowOf line room (Ok (length row)) (written row room)
+  small_room : {row : List ℕ} → Line line row → length room < length row → RowOf line room (Err (SmallRoom (length row))) room
+  no_row : ((row : List ℕ) → Line line row → ⊥) → RowOf line room (Err NoRow) room

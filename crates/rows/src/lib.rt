@@ -1,16 +1,17 @@
 // A TREE line read back into tokens. The line is read twice: a bad one, or one too long for the room, leaves the room as it was.
 #![tactic(auto)]
 
-ghost use Rattle.std.specs.Prelude.{◌≡◌, ◌<◌, length, set};
+ghost use Rattle.std.specs.Prelude.{◌≡◌, ◌<◌};
 ghost use Rattle.rows.specs.Rows.{Line, RowOf};
 ghost use Rattle.rows.specs.Front.{NumberIn, base, Rest, FrontOf, Finds};
 
 use lines::parts::is_word;
-use lines::print::token;
+use lines::print::Writer;
+use walks::step::put;
 
-#[derive(Clone, Copy)]
-pub enum Row {
-    Tokens(usize),
+// Why no row is read: the line has so many tokens and the room fewer, or it is no TREE line.
+#[derive(Clone, Copy, PartialEq, Eq, Debug)]
+pub enum RowError {
     SmallRoom(usize),
     NoRow,
 }
@@ -20,14 +21,6 @@ pub enum Row {
 enum Front {
     Token(u16, usize),
     End,
-    Neither,
-}
-
-// How many tokens a line has, if it is one.
-#[derive(Clone, Copy)]
-enum Found {
-    Count(usize),
-    Nothing,
 }
 
 // The number at the front. No digit is read behind one that is past sixteen bits already.
@@ -35,20 +28,11 @@ fn number_in(s: &[u8]) -> usize
     ensures { NumberIn s.now result }
 {
     let mut v = 0;
-    let mut i = 0;
-    while i < s.len() {
-        let b = s[i] as usize;
-        if b < 48 {
-            return v;
+    for b in s {
+        if !b.is_ascii_digit() || v > 65535 {
+            break;
         }
-        if 57 < b {
-            return v;
-        }
-        if 65535 < v {
-            return v;
-        }
-        v = v * 10 + (b - 48);
-        i += 1;
+        v = v * 10 + (b - b'0') as usize;
     }
     v
 }
@@ -58,96 +42,59 @@ fn base(letter: u8) -> usize
     ensures value { result ≡ base letter }
     ensures upper_bound { result < 257 }
 {
-    if letter == b'o' {
-        return 0;
+    match letter {
+        b'o' => 0,
+        b'c' => 128,
+        _ => 256,
     }
-    if letter == b'c' {
-        return 128;
-    }
-    256
-}
-
-// With what a rest of at most one byte begins.
-fn end_of(s: &[u8]) -> Front
-    requires { length s.now < 2 }
-    ensures { FrontOf s.now result }
-{
-    if is_word(s, b"\n") {
-        return Front::End;
-    }
-    Front::Neither
 }
 
 // With what the rest of a line begins. A token is read as if all were well, printed, and compared with what stands there.
-fn front_of(s: &[u8]) -> Front
+fn front_of(s: &[u8]) -> Option<Front>
     ensures { FrontOf s.now result }
 {
-    if s.len() < 2 {
-        return end_of(s);
-    }
-    let n = base(s[1]) + number_in(&s[2..]);
-    if 65535 < n {
-        return Front::Neither;
-    }
-    let mut bytes = [0u8; 8];
-    let k = token(&mut bytes, 0, n as u16);
-    if is_word(s, &bytes[..k]) {
-        return Front::Token(n as u16, k);
-    }
-    Front::Neither
-}
-
-// One token, if the room goes that far.
-fn keep(room: &mut [u16], at: usize, t: u16)
-    ensures { room.new ≡ set room.old at t }
-{
-    if at < room.len() {
-        room[at] = t;
+    match s {
+        [b'\n'] => Some(Front::End),
+        [_, letter, digits @ ..] => {
+            let t = u16::try_from(base(*letter) + number_in(digits)).ok()?;
+            let mut bytes = [0u8; 8];
+            let mut printed = Writer::new(&mut bytes);
+            printed.token(t);
+            let k = printed.len();
+            is_word(s, &bytes[..k]).then_some(Front::Token(t, k))
+        }
+        _ => None,
     }
 }
 
 // The tokens of the rest of a line, put into the room as far as it goes and counted in any case.
-fn tokens_in(s: &[u8], room: &mut [u16]) -> Found
+fn tokens_in(s: &[u8], room: &mut [u16]) -> Option<usize>
     ensures { Finds (Rest s.now) room.old result room.new }
 {
-    let mut i = 0;
+    let mut rest = s;
     let mut n = 0;
-    loop {
-        match front_of(&s[i..]) {
-            Front::End => return Found::Count(n),
-            Front::Neither => return Found::Nothing,
-            Front::Token(t, k) => {
-                keep(room, n, t);
-                n += 1;
-                i += k;
-            }
-        }
+    while let Front::Token(t, k) = front_of(rest)? {
+        n = put(room, n, t);
+        rest = &rest[k..];
     }
+    Some(n)
 }
 
 // The tokens of a line, put and counted in the same way.
-fn line_in(line: &[u8], room: &mut [u16]) -> Found
+fn line_in(line: &[u8], room: &mut [u16]) -> Option<usize>
     ensures { Finds (Line line.now) room.old result room.new }
 {
-    if is_word(line, b"TREE") {
-        return tokens_in(&line[4..], room);
-    }
-    Found::Nothing
+    tokens_in(line.strip_prefix(b"TREE")?, room)
 }
 
 // Reads a TREE line back: its tokens go to the front of the room, if it holds them.
-pub fn row_of(line: &[u8], room: &mut [u16]) -> Row
+pub fn row_of(line: &[u8], room: &mut [u16]) -> Result<usize, RowError>
     ensures { RowOf line.now room.old result room.new }
 {
-    let mut spare = [0u16; 1];
-    match line_in(line, &mut spare) {
-        Found::Nothing => Row::NoRow,
-        Found::Count(n) => {
-            if room.len() < n {
-                return Row::SmallRoom(n);
-            }
-            line_in(line, room);
-            Row::Tokens(n)
-        }
+    let n = line_in(line, &mut []).ok_or(RowError::NoRow)?;
+    if room.len() < n {
+        return Err(RowError::SmallRoom(n));
     }
+    line_in(line, room);
+    Ok(n)
 }

@@ -1,5 +1,5 @@
 -- Membership of a set: all that a contract says of one. Assumes nothing.
-use Rattle.std.specs.Prelude.{ℕ, ◌≤◌, ◌<◌, ◌≡◌, Bool, true, false, ◌&&◌, not, List, length, get_or}
+use Rattle.std.specs.Prelude.{ℕ, ◌≤◌, ◌<◌, ◌≡◌, Bool, true, false, ◌&&◌, not, List, length, get_or, map, eqb, Option, Some, None}
 use Rattle.sets.specs.declared.set.Set.{Set}
 use Rattle.bits.specs.Bit.{bit}
 use Rattle.bits.specs.Tally.{tally, any}
@@ -33,15 +33,36 @@ pub record Least (s : Set) (r : ℕ) : Type 0 where
   pub below : (q : ℕ) → q < r → has s q ≡ false
   pub here : r < limit → has s r ≡ true
 
--- a table of sets, in cells of one word: how many it has, and the one at p
-unfoldable pub rows : List ℕ → ℕ
+-- r is the least member of s, if there is one
+abbrev pub LeastOf : Set → Option ℕ → Type 0
+LeastOf s (Some p) = (p < limit) × Least s p
+LeastOf s None = Least s limit
+
+-- the least member of s was taken out, if there is one, and t is left
+abbrev pub Popped : Set → Option ℕ → Set → Type 0
+Popped s (Some p) t = (p < limit) × Least s p × ((q : ℕ) → has t q ≡ (has s q && not (eqb q p)))
+Popped s None t = Least s limit × (t ≡ s)
+
+-- the set with no member
+abbrev pub none : Set
+none = record { bits = 0 }
+
+-- a table of sets: how many it has, and the one at p
+abbrev pub rows : List Set → ℕ
 rows l = length l
 
-unfoldable pub row : List ℕ → ℕ → Set
-row l p = record { bits = get_or l p 0 }
+abbrev pub row : List Set → ℕ → Set
+row l p = get_or l p none
 
 -- m is the table l with s at p
-pub record Stored (s : Set) (p : ℕ) (l m : List ℕ) : Type 0 where
+pub record Stored (s : Set) (p : ℕ) (l m : List Set) : Type 0 where
   pub same_rows : rows m ≡ rows l
   pub here : row m p ≡ s
   pub other : (q : ℕ) → (q ≡ p → ⊥) → row m q ≡ row l q
+
+-- the table that cells of one word hold
+abbrev pub of_word : ℕ → Set
+of_word w = record { bits = w }
+
+unfoldable pub held : List ℕ → List Set
+held cells = map of_word cells

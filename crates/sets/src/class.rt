@@ -48,11 +48,8 @@ impl Class {
         ensures { (q : ℕ) → among result q ≡ (among self q || (leb c q && leb q d)) }
     {
         let mut r = self;
-        let end = d as usize;
-        let mut b = c as usize;
-        while b <= end {
-            r = r.with(b as u8);
-            b += 1;
+        for b in c..=d {
+            r = r.with(b);
         }
         r
     }

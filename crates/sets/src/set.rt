@@ -1,9 +1,9 @@
 // A set of positions below the limit, in one word. Contracts speak of members alone, so that a limit of two words moves no caller.
-ghost use Rattle.std.specs.Prelude.{◌≡◌, true, false, ◌&&◌, ◌||◌, not, ◌↔◌, ℕ, ◌<◌, eqb};
-ghost use Rattle.sets.specs.Members.{has, limit, vacant, meets, Alike, Least, rows, row, Stored};
+ghost use Rattle.std.specs.Prelude.{◌≡◌, true, false, ◌&&◌, ◌||◌, ◌↔◌, ℕ, ◌<◌, eqb, length};
+ghost use Rattle.sets.specs.Members.{has, limit, none, vacant, meets, Alike, LeastOf, Popped, row, held, Stored};
 
 // Position p is the bit p.
-#[derive(Clone, Copy)]
+#[derive(Clone, Copy, PartialEq, Eq)]
 pub struct Set {
     pub bits: u64,
 }
@@ -14,7 +14,8 @@ pub const LIMIT: usize = 64;
 impl Set {
     // The set with no member.
     pub fn empty() -> Set
-        ensures { (q : ℕ) → has result q ≡ false }
+        ensures members { (q : ℕ) → has result q ≡ false }
+        ensures is_none { result ≡ none }
     {
         Set { bits: 0 }
     }
@@ -34,16 +35,6 @@ impl Set {
     {
         Set {
             bits: self.bits | (1u64 << p),
-        }
-    }
-
-    // The set but for p.
-    pub fn without(self, p: usize) -> Set
-        requires { p < limit }
-        ensures { (q : ℕ) → has result q ≡ (has self q && not (eqb q p)) }
-    {
-        Set {
-            bits: self.bits & !(1u64 << p),
         }
     }
 
@@ -76,10 +67,7 @@ impl Set {
     pub fn same(self, other: Set) -> bool
         ensures { (result ≡ true) ↔ Alike self other }
     {
-        if self.bits == other.bits {
-            return true;
-        }
-        false
+        self == other
     }
 
     // Is there a member in both?
@@ -89,26 +77,38 @@ impl Set {
         !self.meet(other).is_empty()
     }
 
-    // The least member, or LIMIT where there is none.
-    pub fn first(self) -> usize
-        ensures { Least self result }
+    // The least member.
+    pub fn first(self) -> Option<usize>
+        ensures { LeastOf self result }
     {
-        u64::trailing_zeros(self.bits) as usize
+        if self.bits == 0 {
+            return None;
+        }
+        Some(self.bits.trailing_zeros() as usize)
     }
 
-    // The set that a table of sets has at p.
-    pub fn load(table: &[u64], p: usize) -> Set
-        requires { p < rows table.now }
-        ensures { result ≡ row table.now p }
+    // Takes the least member out.
+    pub fn pop_first(&mut self) -> Option<usize>
+        ensures { Popped self.old result self.new }
     {
-        Set { bits: table[p] }
+        let p = self.first()?;
+        self.bits &= self.bits - 1;
+        Some(p)
     }
 
-    // Puts the set into a table of sets at p.
-    pub fn store(self, table: &mut [u64], p: usize)
-        requires { p < rows table.old }
-        ensures { Stored self p table.old table.new }
+    // The set in a cell.
+    pub fn load(cells: &[u64], i: usize) -> Set
+        requires { i < length cells.now }
+        ensures { result ≡ row (held cells.now) i }
     {
-        table[p] = self.bits;
+        Set { bits: cells[i] }
+    }
+
+    // Puts the set into a cell.
+    pub fn store(self, cells: &mut [u64], i: usize)
+        requires { i < length cells.old }
+        ensures { Stored self i (held cells.old) (held cells.new) }
+    {
+        cells[i] = self.bits;
     }
 }

@@ -1,7 +1,5 @@
 -- Laws of the sheet.
 pub mod CheckLaws
-pub mod Figured
-pub mod Fronts
 pub mod Making
 pub mod RecordLaws
 pub mod Settled

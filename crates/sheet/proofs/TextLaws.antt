@@ -7,19 +7,22 @@ use native.Mathlib.Omega.{arith}
 use lib.ListN.{length, take, get_or}
 use lib.Seq.{take_all}
 use borrow.Author.Tests.{lt-ltb, le-ltb, eq-eqb, ne_eqb}
+use Rattle.meaning.specs.declared.Record.{Record}
 use Rattle.meaning.specs.Promise.{written}
 use Rattle.meaning.specs.Sheet.{line, lines, mark_lines, change, change_lines, sheet_text}
 use Rattle.lines.specs.Wrote.{Wrote}
-use Rattle.lines.proofs.WroteLaws.{wrote_then, wrote_whole}
-use Rattle.sheet.specs.Figures.{records_from}
-use Rattle.sheet.proofs.RecordLaws.{records_length}
+use Rattle.lines.specs.Puts.{Puts}
+use Rattle.lines.specs.declared.print.Writer.{Writer}
+use Rattle.lines.proofs.PutsLaws.{puts_then}
+use Rattle.lines.proofs.WroteLaws.{wrote_whole}
+use Rattle.tally.specs.Tally.{blank}
 
 -- what is put by another name, and what is put behind it
-pub wrote_same : {t t' : List ℕ} {at r : ℕ} {l m : List ℕ} → l ≡ m → Wrote t at l t' r → Wrote t at m t' r
-wrote_same e a = rw e at a
+pub puts_same : {a b : Writer} {l m : List ℕ} → l ≡ m → Puts a l b → Puts a m b
+puts_same e p = rw e at p
 
-pub wrote_more : {t t₁ t₂ : List ℕ} {at r₁ r₂ : ℕ} {l m n : List ℕ} → n ≡ l ++ m → Wrote t at l t₁ r₁ → Wrote t₁ r₁ m t₂ r₂ → Wrote t at n t₂ r₂
-wrote_more e a b = rw e (wrote_then a b)
+pub puts_more : {a b c : Writer} {l m n : List ℕ} → n ≡ l ++ m → Puts a l b → Puts b m c → Puts a n c
+puts_more e p q = rw e (puts_then p q)
 
 -- what is put from the front into a row that holds it
 pub wrote_written : {t t' : List ℕ} {r : ℕ} {l : List ℕ} → Wrote t 0 l t' r → length l ≤ length t → (t' ≡ written l t) × (r ≡ length l)
@@ -41,46 +44,38 @@ lines_all row i h = rw (take_all i row h)
 
 -- ---- the marks
 
+abbrev pub three : Record → List ℕ
+three r = line r.turns ++ (line r.bytes ++ line r.longest)
+
 three_before : (a b c s u : List ℕ) → a ++ (b ++ (c ++ (s ++ u))) ≡ (a ++ (b ++ (c ++ s))) ++ u
 three_before a b c s u = rw (append_assoc a (b ++ (c ++ s)) u, append_assoc b (c ++ s) u, append_assoc c s u)
 
-module _ (turns bytes longest : List ℕ) where
-  abbrev three : ℕ → List ℕ
-  three i = line (get_or turns i 0) ++ (line (get_or bytes i 0) ++ line (get_or longest i 0))
+marks_suc : (rs : List Record) (i : ℕ) → i < length rs → mark_lines (take (suc i) rs) ≡ mark_lines (take i rs) ++ three (get_or rs i blank)
+unfolding mark_lines
+marks_suc [] i h = absurd (omega arith)
+marks_suc (r ∷ rs) zero h = rw (append-nil (line r.longest))
+marks_suc (r ∷ rs) (suc i) h = rw (marks_suc rs i (omega arith)) (three_before (line r.turns) (line r.bytes) (line r.longest) (mark_lines (take i rs)) (three (get_or rs i blank)))
 
-  marks_suc : (j k i : ℕ) → i ≡ j + k
-      → mark_lines (records_from turns bytes longest j (suc k)) ≡ mark_lines (records_from turns bytes longest j k) ++ three i
-  unfolding mark_lines records_from
-  marks_suc j zero i e = let e' : i ≡ j = omega arith in rw (e', append-nil (line (get_or longest j 0)))
-  marks_suc j (suc k) i e =
-      let rest = mark_lines (records_from turns bytes longest (suc j) k) in
-      rw (marks_suc (suc j) k i (omega arith)) (three_before (line (get_or turns j 0)) (line (get_or bytes j 0)) (line (get_or longest j 0)) rest (three i))
+pub marks_more : (rs : List Record) (i : ℕ) → i < length rs → mark_lines (take (i + 1) rs) ≡ mark_lines (take i rs) ++ three (get_or rs i blank)
+marks_more rs i h = rw add-one (marks_suc rs i h)
 
-  pub marks_more : (i : ℕ) → mark_lines (records_from turns bytes longest 0 (i + 1)) ≡ mark_lines (records_from turns bytes longest 0 i) ++ three i
-  marks_more i = rw add-one (marks_suc 0 i i (omega arith))
+changes_suc : (rs : List Record) (last : List ℕ) (i : ℕ) → i < length rs → i < length last
+    → change_lines (take (suc i) rs) (take (suc i) last) ≡ change_lines (take i rs) (take i last) ++ change (get_or rs i blank).turns (get_or last i 0)
+unfolding change_lines
+changes_suc [] last i h h' = absurd (omega arith)
+changes_suc (r ∷ rs) [] i h h' = absurd (omega arith)
+changes_suc (r ∷ rs) (n ∷ last) zero h h' = append-nil (change r.turns n)
+changes_suc (r ∷ rs) (n ∷ last) (suc i) h h' =
+    rw (changes_suc rs last i (omega arith) (omega arith)) (sym (append_assoc (change r.turns n) (change_lines (take i rs) (take i last)) (change (get_or rs i blank).turns (get_or last i 0))))
 
-  pub marks_all : (i k : ℕ) → i ≤ k → k ≤ i → mark_lines (records_from turns bytes longest 0 i) ≡ mark_lines (records_from turns bytes longest 0 k)
-  marks_all i k h h' = let e : i ≡ k = omega arith in rw e
+-- one change more
+pub puts_changes : {a b c : Writer} (rs : List Record) (last : List ℕ) (i : ℕ) {j m : ℕ} {r : Record} → i < length rs → i < length last → r ≡ get_or rs i blank → m ≡ get_or last i 0 → j ≡ i + 1
+    → Puts a (change_lines (take i rs) (take i last)) b → Puts b (change r.turns m) c → Puts a (change_lines (take j rs) (take j last)) c
+puts_changes rs last i h h' e e' z p q = rw (z, add-one) (puts_more (changes_suc rs last i h h') p (rw (e, e') at q))
 
-  changes_suc : (last : List ℕ) (j k i : ℕ) → i ≡ j + k → k < length last
-      → change_lines (records_from turns bytes longest j (suc k)) (take (suc k) last)
-      ≡ change_lines (records_from turns bytes longest j k) (take k last) ++ change (get_or turns i 0) (get_or last k 0)
-  unfolding change_lines records_from
-  changes_suc [] j k i e h = absurd (omega arith)
-  changes_suc (n ∷ last) j zero i e h = let e' : i ≡ j = omega arith in rw e' (append-nil (change (get_or turns j 0) n))
-  changes_suc (n ∷ last) j (suc k) i e h =
-      let rest = change_lines (records_from turns bytes longest (suc j) k) (take k last) in
-      let here = change (get_or turns j 0) n in
-      rw (changes_suc last (suc j) k i (omega arith) (omega arith)) (sym (append_assoc here rest (change (get_or turns i 0) (get_or last k 0))))
-
-  pub changes_more : (last : List ℕ) (i : ℕ) → i < length last
-      → change_lines (records_from turns bytes longest 0 (i + 1)) (take (i + 1) last)
-      ≡ change_lines (records_from turns bytes longest 0 i) (take i last) ++ change (get_or turns i 0) (get_or last i 0)
-  changes_more last i h = rw add-one (changes_suc last 0 i i (omega arith) h)
-
-  pub changes_all : (last : List ℕ) (i : ℕ) → i ≤ length last → length last ≤ i
-      → change_lines (records_from turns bytes longest 0 i) (take i last) ≡ change_lines (records_from turns bytes longest 0 (length last)) last
-  changes_all last i h h' = let e : i ≡ length last = omega arith in rw (take_all i last h', e)
+-- all of them
+pub changes_all : {a b : Writer} (rs : List Record) (last : List ℕ) (i : ℕ) → i ≡ length rs → i ≡ length last → Puts a (change_lines (take i rs) (take i last)) b → Puts a (change_lines rs last) b
+changes_all rs last i e e' p = rw (take_all i rs (omega arith), take_all i last (omega arith)) at p
 
 -- ---- a change
 
@@ -97,11 +92,8 @@ module _ (tonight last : ℕ) where
 -- ---- the sections
 
 -- each after its count
-pub wrote_sheet : (numbers turns bytes longest last : List ℕ) {marks at r₁ r₂ r₃ r₄ r₅ r₆ : ℕ} {t t₁ t₂ t₃ t₄ t₅ t₆ : List ℕ} → length last ≡ marks
-    → Wrote t at (line (length numbers)) t₁ r₁ → Wrote t₁ r₁ (lines numbers) t₂ r₂
-    → Wrote t₂ r₂ (line marks) t₃ r₃ → Wrote t₃ r₃ (mark_lines (records_from turns bytes longest 0 marks)) t₄ r₄
-    → Wrote t₄ r₄ (line marks) t₅ r₅ → Wrote t₅ r₅ (change_lines (records_from turns bytes longest 0 (length last)) last) t₆ r₆
-    → Wrote t at (sheet_text numbers (records_from turns bytes longest 0 marks) last) t₆ r₆
+pub puts_sheet : (numbers : List ℕ) (rs : List Record) (last : List ℕ) {a b c d e f g : Writer}
+    → Puts a (line (length numbers)) b → Puts b (lines numbers) c → Puts c (line (length rs)) d → Puts d (mark_lines rs) e → Puts e (line (length rs)) f → Puts f (change_lines rs last) g
+    → Puts a (sheet_text numbers rs last) g
 unfolding sheet_text
-wrote_sheet numbers turns bytes longest last {marks} e a b c d f g = rw (records_length turns bytes longest 0 marks)
-    (wrote_then a (wrote_then b (wrote_then c (wrote_then d (wrote_then f (rw e at g))))))
+puts_sheet numbers rs last p q r s t u = puts_then p (puts_then q (puts_then r (puts_then s (puts_then t u))))

@@ -1,27 +1,29 @@
 -- The number and the value that an answer of the sheet stands for. Assumes nothing: these are definitions.
-use Rattle.std.specs.Prelude.{ℕ}
-use Rattle.sheet.specs.declared.figures.Answer.{Answer}
+use Rattle.std.specs.Prelude.{ℕ, Result, Ok, Err}
+use Rattle.pattern.specs.Answers as pattern
+use Rattle.sheet.specs.declared.figures.Refusal.{Refusal}
+use Rattle.sheet.specs.declared.figures.Refusal.TheVariants.{Pattern, LittleLent, WrongLengths, WrongMarks, MuchLast}
 
-abbrev pub number_of : Answer → ℕ
-number_of Answer.LongPattern = 1
-number_of Answer.LittleLent = 3
-number_of (Answer.NoPattern place) = 4
-number_of Answer.TooDeep = 5
-number_of Answer.ManyPositions = 6
-number_of Answer.ManyMarks = 7
-number_of Answer.WrongLengths = 12
-number_of Answer.WrongMarks = 13
-number_of Answer.MuchLast = 14
-number_of (Answer.Sheet length) = 0
+-- of a refusal; what a refused pattern stands for, the pattern reader says
+abbrev pub refusal_number : Refusal → ℕ
+refusal_number (Pattern why) = pattern.refusal_number why
+refusal_number LittleLent = 3
+refusal_number WrongLengths = 12
+refusal_number WrongMarks = 13
+refusal_number MuchLast = 14
 
-abbrev pub value_of : Answer → ℕ
-value_of Answer.LongPattern = 0
-value_of Answer.LittleLent = 0
-value_of (Answer.NoPattern place) = place
-value_of Answer.TooDeep = 0
-value_of Answer.ManyPositions = 0
-value_of Answer.ManyMarks = 0
-value_of Answer.WrongLengths = 0
-value_of Answer.WrongMarks = 0
-value_of Answer.MuchLast = 0
-value_of (Answer.Sheet length) = length
+abbrev pub refusal_value : Refusal → ℕ
+refusal_value (Pattern why) = pattern.refusal_value why
+refusal_value LittleLent = 0
+refusal_value WrongLengths = 0
+refusal_value WrongMarks = 0
+refusal_value MuchLast = 0
+
+-- of an answer
+abbrev pub number_of : Result ℕ Refusal → ℕ
+number_of (Ok length) = 0
+number_of (Err why) = refusal_number why
+
+abbrev pub value_of : Result ℕ Refusal → ℕ
+value_of (Ok length) = length
+value_of (Err why) = refusal_value why

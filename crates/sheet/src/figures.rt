@@ -1,60 +1,78 @@
-// What a night comes to, by value: its answer, and the figures of each mark. Those of mark h stand at place h - 1.
+// What a night comes to: the answer, and the figures of each mark. Those of mark h stand at place h - 1.
 ghost use Rattle.std.specs.Prelude.{◌≡◌};
-ghost use Rattle.sheet.specs.Answers.{number_of, value_of};
+ghost use Rattle.sheet.specs.declared.figures.Refusal.TheVariants.{Pattern};
+ghost use Rattle.sheet.specs.Answers.{refusal_number, refusal_value, number_of, value_of};
 
-// One for each line of the table of answers: the place of the mistake, the length of the sheet.
-#[derive(Clone, Copy)]
-pub enum Answer {
-    LongPattern,
+use meaning::Record;
+
+// Why there is no sheet: the pattern is refused, little is lent, the lengths do not fit the reports, the records or the turns of last night
+// do not fit the marks of the pattern, or last night had too many turns.
+#[derive(Clone, Copy, PartialEq, Eq, Debug)]
+pub enum Refusal {
+    Pattern(pattern::Refusal),
     LittleLent,
-    NoPattern(usize),
-    TooDeep,
-    ManyPositions,
-    ManyMarks,
     WrongLengths,
     WrongMarks,
     MuchLast,
-    Sheet(usize),
 }
 
+// The length of the sheet.
+pub type Answer = Result<usize, Refusal>;
+
+// A sheet that is written: how long it is, and the figures that it tells.
 #[derive(Clone, Copy)]
-pub struct Figures {
-    pub answer: Answer,
-    pub turns: [u64; 64],
-    pub bytes: [u64; 64],
-    pub longest: [u64; 64],
+pub struct Made {
+    pub length: usize,
+    pub figures: [Record; 64],
 }
 
+impl From<pattern::Refusal> for Refusal {
+    ghost from_gives = { λ why refusal. refusal ≡ Pattern why };
+
+    fn from(why: pattern::Refusal) -> Refusal {
+        Refusal::Pattern(why)
+    }
+}
+
+impl Refusal {
+    pub fn number(self) -> u32
+        ensures { result ≡ refusal_number self }
+    {
+        match self {
+            Refusal::Pattern(why) => why.number(),
+            Refusal::LittleLent => 3,
+            Refusal::WrongLengths => 12,
+            Refusal::WrongMarks => 13,
+            Refusal::MuchLast => 14,
+        }
+    }
+
+    pub fn value(self) -> usize
+        ensures { result ≡ refusal_value self }
+    {
+        match self {
+            Refusal::Pattern(why) => why.value(),
+            _ => 0,
+        }
+    }
+}
+
+// The number of the line in the table of answers.
 pub fn number(a: Answer) -> u32
     ensures { result ≡ number_of a }
 {
     match a {
-        Answer::LongPattern => 1,
-        Answer::LittleLent => 3,
-        Answer::NoPattern(_) => 4,
-        Answer::TooDeep => 5,
-        Answer::ManyPositions => 6,
-        Answer::ManyMarks => 7,
-        Answer::WrongLengths => 12,
-        Answer::WrongMarks => 13,
-        Answer::MuchLast => 14,
-        Answer::Sheet(_) => 0,
+        Ok(_) => 0,
+        Err(refusal) => refusal.number(),
     }
 }
 
+// The length of the sheet, or the place of the mistake.
 pub fn value(a: Answer) -> usize
     ensures { result ≡ value_of a }
 {
     match a {
-        Answer::LongPattern => 0,
-        Answer::LittleLent => 0,
-        Answer::NoPattern(place) => place,
-        Answer::TooDeep => 0,
-        Answer::ManyPositions => 0,
-        Answer::ManyMarks => 0,
-        Answer::WrongLengths => 0,
-        Answer::WrongMarks => 0,
-        Answer::MuchLast => 0,
-        Answer::Sheet(length) => length,
+        Ok(length) => length,
+        Err(refusal) => refusal.value(),
     }
 }

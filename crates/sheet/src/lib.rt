@@ -1,4 +1,4 @@
-// The night sheet: its text, the table of records, and the call.
+// The night sheet: its text, the figures of the marks, and the call.
 #![tactic(auto)]
 
 ghost use Rattle.meaning.specs.Sheet.{Sheeted};
@@ -7,15 +7,13 @@ ghost use Rattle.sheet.specs.Answers.{number_of, value_of};
 mod checks;
 pub mod figures;
 pub mod make;
-mod table;
 mod text;
 
 use crate::figures::Answer;
 use crate::make::make;
-use crate::table::apply;
 use meaning::Record;
 
-// The figures of the night are made without the table, and then go to it.
+// The figures of the night are made without the table, and then go to it; a refusal has none.
 pub fn sheet(
     pattern: &[u8],
     reports: &[u8],
@@ -28,16 +26,8 @@ pub fn sheet(
 ) -> Answer
     ensures { Sheeted pattern.now reports.now lengths.now last.now cells.old tree.old table.old sheet.old (number_of result) (value_of result) cells.new tree.new table.new sheet.new }
 {
-    let f = make(
-        pattern,
-        reports,
-        lengths,
-        last,
-        table.len(),
-        cells,
-        tree,
-        sheet,
-    );
-    apply(table, f);
-    f.answer
+    let records = table.len();
+    let made = make(pattern, reports, lengths, last, records, cells, tree, sheet)?;
+    table.copy_from_slice(&made.figures[..records]);
+    Ok(made.length)
 }

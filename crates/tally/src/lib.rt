@@ -1,15 +1,14 @@
 // A row of tokens counted in the figures of its marks. The figures of mark m + 1 stand at place m.
 #![tactic(auto)]
 
-ghost use Rattle.std.specs.Prelude.{◌≡◌, true, ◌+◌, ◌-◌, ◌≤◌, ◌<◌, length, get_or};
+ghost use Rattle.std.specs.Prelude.{◌≡◌, true, ◌+◌, ◌*◌, ◌-◌, ◌≤◌, ◌<◌, length, get_or};
 ghost use Rattle.tally.specs.Tally.{Holds, Tallied};
-ghost use Rattle.tally.specs.Along.{counts, Added, Takes, Opens, Opened, Closes, Underway, Moved, Ends, Ran};
+ghost use Rattle.tally.specs.Along.{plus, Fits, Takes, Opens, Opened, Closes, Underway, Moved, Ends, Ran};
+
+use meaning::Record;
 
 // A mark is closed by its number and this.
-const CLOSING: usize = 128;
-
-// Stands for a mark that is not closed behind the place: no row has so many bytes.
-const NEVER: u64 = 18446744073709551615;
+const CLOSING: u16 = 128;
 
 // A place of a row, and how many byte tokens stand behind it.
 #[derive(Clone, Copy)]
@@ -18,179 +17,151 @@ struct Place {
     seen: u64,
 }
 
-// The mark at place m has more turns: so many, which read so many bytes, the longest of them so many.
-fn add(
-    m: usize,
-    more: u64,
-    read: u64,
-    most: u64,
-    turns: &mut [u64],
-    bytes: &mut [u64],
-    longest: &mut [u64],
-)
-    requires { Takes m more read (counts turns.old bytes.old longest.old) }
-    ensures { Added m more read most (counts turns.old bytes.old longest.old) (counts turns.new bytes.new longest.new) }
+// Of each mark that is closed behind a place: how many of the byte tokens seen stand behind its next closing.
+type Closings = [u64; 64];
+
+// Stands for a mark that is not closed there: no row has so many bytes. An Option in its place takes a tenth more time.
+const NEVER: u64 = u64::MAX;
+
+// A mark has more turns.
+fn add(figures: &mut Record, more: Record)
+    requires { Fits figures.old more }
+    ensures { figures.new ≡ plus figures.old more }
 {
-    turns[m] += more;
-    bytes[m] += read;
-    if longest[m] < most {
-        longest[m] = most;
-    }
+    figures.turns += more.turns;
+    figures.bytes += more.bytes;
+    figures.longest = figures.longest.max(more.longest);
 }
 
 // Whether a closing of the mark ends a turn of one byte, if it stands before the place.
-fn wraps(row: &[u16], at: usize, mark: usize) -> bool
+fn wraps(row: &[u16], at: usize, mark: u16) -> bool
     requires { at ≤ length row.now }
     ensures { result ≡ true → Closes row.now at mark → Ends row.now at mark }
 {
-    if at < 3 {
+    let &[.., opening, byte, _] = &row[..at] else {
         return false;
-    }
-    let byte = row[at - 2];
-    let opening = row[at - 3] as usize;
-    if byte / 256 != 1 {
-        return false;
-    }
-    opening == mark
+    };
+    byte / 256 == 1 && opening == mark
 }
 
 // Whether such a turn ends at the place.
-fn ends(row: &[u16], at: usize, mark: usize) -> bool
+fn ends(row: &[u16], at: usize, mark: u16) -> bool
     requires in_row { at ≤ length row.now }
     requires from_one { 1 ≤ mark }
     requires up_to_last { mark ≤ 64 }
     ensures { result ≡ true → Ends row.now at mark }
 {
-    if at < 3 {
-        return false;
-    }
-    let closing = row[at - 1] as usize;
-    let wrapped = wraps(row, at, mark);
-    if closing != mark + CLOSING {
-        return false;
-    }
-    wrapped
+    at > 0 && row[at - 1] == mark + CLOSING && wraps(row, at, mark)
 }
 
-// All such turns that stand there behind each other.
-fn run(row: &[u16], mark: usize, from: usize, behind: u64) -> Place
-    requires in_row { from + behind ≤ length row.now }
+// The place before all such turns that end there, one right behind another.
+fn run(row: &[u16], from: usize, mark: u16) -> usize
+    requires in_row { from ≤ length row.now }
     requires from_one { 1 ≤ mark }
     requires up_to_last { mark ≤ 64 }
-    ensures { Ran row.now mark from behind result.at result.seen }
+    ensures { Ran row.now mark from result }
 {
     let mut at = from;
     while ends(row, at, mark) {
         at -= 3;
     }
-    let turns = (from - at) / 3;
-    Place {
-        at: at,
-        seen: behind + turns as u64,
-    }
+    at
 }
 
-// At an opening of the mark at place m: its turn is counted, if bytes stand before its next closing.
-fn opening(
-    m: usize,
-    seen: u64,
-    closed: &[u64],
-    turns: &mut [u64],
-    bytes: &mut [u64],
-    longest: &mut [u64],
-)
-    requires in_closed { m < length closed.now }
-    requires opens { Opens m (seen - get_or closed.now m 0) (counts turns.old bytes.old longest.old) }
-    ensures { Opened m (seen - get_or closed.now m 0) (counts turns.old bytes.old longest.old) (counts turns.new bytes.new longest.new) }
-{
-    let behind = closed[m];
-    if behind < seen {
-        let read = seen - behind;
-        add(m, 1, read, read, turns, bytes, longest);
+impl Place {
+    // At an opening of the mark at place m: its turn is counted, if bytes stand before its next closing.
+    fn opening(self, m: usize, closed: &Closings, figures: &mut [Record; 64])
+        requires { Opens m self.seen closed.now figures.old }
+        ensures { Opened m self.seen closed.now figures.old figures.new }
+    {
+        let behind = closed[m];
+        if behind < self.seen {
+            let read = self.seen - behind;
+            add(
+                &mut figures[m],
+                Record {
+                    turns: 1,
+                    bytes: read,
+                    longest: read,
+                },
+            );
+        }
     }
-}
 
-// At a closing, which stands before the place: with it go all turns of one byte that end there.
-fn closing(
-    row: &[u16],
-    at: usize,
-    seen: u64,
-    mark: usize,
-    closed: &mut [u64],
-    turns: &mut [u64],
-    bytes: &mut [u64],
-    longest: &mut [u64],
-) -> Place
-    requires underway { Underway row.now at seen closed.old (counts turns.old bytes.old longest.old) }
-    requires closes { Closes row.now at mark }
-    ensures { Moved row.now at seen closed.old (counts turns.old bytes.old longest.old) result.at result.seen closed.new (counts turns.new bytes.new longest.new) }
-{
-    let m = mark - 1;
-    if wraps(row, at, mark) {
-        let front = run(row, mark, at - 3, seen + 1);
-        let more = front.seen - seen;
-        closed[m] = front.seen - 1;
-        add(m, more, more, 1, turns, bytes, longest);
-        return front;
+    // At a closing, which stands before the place: with it go all turns of one byte that end there.
+    fn closing(
+        self,
+        row: &[u16],
+        mark: u16,
+        closed: &mut Closings,
+        figures: &mut [Record; 64],
+    ) -> Place
+        requires underway { Underway row.now self closed.old figures.old }
+        requires closes { Closes row.now self.at mark }
+        ensures { Moved row.now self closed.old figures.old result closed.new figures.new }
+    {
+        let m = mark as usize - 1;
+        if !wraps(row, self.at, mark) {
+            closed[m] = self.seen;
+            return Place {
+                at: self.at - 1,
+                ..self
+            };
+        }
+        let at = run(row, self.at - 3, mark);
+        let turns = ((self.at - at) / 3) as u64;
+        let seen = self.seen + turns;
+        closed[m] = seen - 1;
+        add(
+            &mut figures[m],
+            Record {
+                turns,
+                bytes: turns,
+                longest: 1,
+            },
+        );
+        Place { at, seen }
     }
-    closed[m] = seen;
-    Place {
-        at: at - 1,
-        seen: seen,
-    }
-}
 
-// One token towards the front, or a run of turns of one byte.
-fn step(
-    row: &[u16],
-    at: usize,
-    seen: u64,
-    closed: &mut [u64],
-    turns: &mut [u64],
-    bytes: &mut [u64],
-    longest: &mut [u64],
-) -> Place
-    requires underway { Underway row.now at seen closed.old (counts turns.old bytes.old longest.old) }
-    requires not_first { 0 < at }
-    ensures { Moved row.now at seen closed.old (counts turns.old bytes.old longest.old) result.at result.seen closed.new (counts turns.new bytes.new longest.new) }
-{
-    let mut next = Place {
-        at: at - 1,
-        seen: seen,
-    };
-    let token = row[at - 1] as usize;
-    if 256 <= token {
-        if token <= 511 {
-            next.seen += 1;
+    // One token towards the front, or a run of turns of one byte.
+    fn step(self, row: &[u16], closed: &mut Closings, figures: &mut [Record; 64]) -> Place
+        requires underway { Underway row.now self closed.old figures.old }
+        requires not_first { 0 < self.at }
+        ensures { Moved row.now self closed.old figures.old result closed.new figures.new }
+    {
+        let at = self.at - 1;
+        let token = row[at];
+        // a byte token is 256 to 511, and most tokens are bytes
+        if token >= 256 {
+            let seen = if token <= 511 {
+                self.seen + 1
+            } else {
+                self.seen
+            };
+            return Place { at, seen };
         }
-        return next;
-    }
-    if CLOSING < token {
-        if token <= 192 {
-            let mark = token - CLOSING;
-            return closing(row, at, seen, mark, closed, turns, bytes, longest);
-        }
-        return next;
-    }
-    if 1 <= token {
-        if token <= 64 {
-            opening(token - 1, seen, closed, turns, bytes, longest);
+        match token {
+            1..=64 => {
+                self.opening(token as usize - 1, closed, figures);
+                Place { at, ..self }
+            }
+            129..=192 => self.closing(row, token - CLOSING, closed, figures),
+            _ => Place { at, ..self },
         }
     }
-    next
 }
 
 // From the end of the row to its front, so that what an opening waits for has been seen.
-pub fn tally(row: &[u16], turns: &mut [u64; 64], bytes: &mut [u64; 64], longest: &mut [u64; 64])
-    requires { Holds row.now turns.old bytes.old }
-    ensures { Tallied row.now turns.old turns.new bytes.old bytes.new longest.old longest.new }
+pub fn tally(row: &[u16], figures: &mut [Record; 64])
+    requires { Holds row.now figures.old }
+    ensures { Tallied row.now figures.old figures.new }
 {
     let mut closed = [NEVER; 64];
-    let mut at = row.len();
-    let mut seen: u64 = 0;
-    while 0 < at {
-        let next = step(row, at, seen, &mut closed, turns, bytes, longest);
-        at = next.at;
-        seen = next.seen;
+    let mut place = Place {
+        at: row.len(),
+        seen: 0,
+    };
+    while 0 < place.at {
+        place = place.step(row, &mut closed, figures);
     }
 }

@@ -1,18 +1,23 @@
 -- What is told of a search is the promised answer. Assumes nothing.
-use mathlib.Core.Path.{◌≡◌, refl, sym, ap, ap₂, ◌∙◌}
-use mathlib.Core.Bool.{Bool, true, false, ◌&&◌, cond}
+use mathlib.Core.Path.{◌≡◌, refl}
+use mathlib.Core.Bool.{Bool, true, false, cond}
 use mathlib.Core.List.{List}
 use Prim.Native.Nat.{ℕ, ◌≤◌, ◌<◌}
 use native.Mathlib.Omega.{arith}
 use lib.Dec.{ltb}
 use lib.ListN.{length}
-use borrow.Author.Tests.{ltb-true, ltb-false, le-leb, lt-leb, lt-ltb, le-ltb, eq-eqb, ne_eqb}
+use borrow.Author.Tests.{ltb-true, ltb-false, le-leb, lt-leb}
 use Rattle.meaning.specs.Expression.{Re}
 use Rattle.meaning.specs.Promise.{Judged, small_room, Answered, few_cells}
 use Rattle.grammar.specs.ReadPromise.{refused_range}
-use Rattle.tree.specs.declared.outcome.Outcome.{Outcome}
-use Rattle.tree.specs.declared.outcome.Outcome.TheVariants as outcome
-use Rattle.tree.specs.Outcome.{number_of, value_of, flag_of}
+use Rattle.std.proofs.Common.{Ok, Err}
+use Rattle.pattern.specs.Answers as pattern
+use Rattle.pattern.specs.declared.Refusal.{Refusal as PatternRefusal}
+use Rattle.pattern.specs.declared.Refusal.TheVariants as refused
+use Rattle.tree.specs.declared.outcome.Refusal.{Refusal}
+use Rattle.tree.specs.declared.outcome.Refusal.TheVariants as outcome
+use Rattle.tree.specs.declared.outcome.Tree.{Tree}
+use Rattle.tree.specs.Outcome.{Outcome, refusal_number, number_of, value_of, flag_of}
 use Rattle.tree.specs.Search.{Sought, no_tree, a_tree, Searched, sought, tell}
 
 -- no tree
@@ -51,25 +56,32 @@ long (Searched.few_cells h k j) z l = absurd (omega arith)
 long (Searched.refused g r) z l = absurd (omega (arith, refused_range r))
 long (sought g a s) z l = Answered.judged g a (long_sought s z l)
 
-abbrev tree_told : ℕ → Bool → Bool → Outcome
-tree_told l o short = cond short (outcome.SmallRoom l) (outcome.Tree l o)
+-- a refusal has a number
+pattern_refused : (r : PatternRefusal) → pattern.refusal_number r ≡ 0 → ⊥
+pattern_refused refused.TooLong z = omega arith
+pattern_refused (refused.NoPattern place) z = omega arith
+pattern_refused refused.TooDeep z = omega arith
+pattern_refused refused.ManyPositions z = omega arith
+pattern_refused refused.ManyMarks z = omega arith
+
+pub refusal_some : (r : Refusal) → refusal_number r ≡ 0 → ⊥
+refusal_some (outcome.Pattern why) z = pattern_refused why z
+refusal_some outcome.LongText z = omega arith
+refusal_some outcome.FewCells z = omega arith
+refusal_some (outcome.NoTree place) z = omega arith
+refusal_some (outcome.SmallRoom length) z = omega arith
+
+abbrev tree_told : Tree → Bool → Outcome
+tree_told t short = cond short (Err (outcome.SmallRoom t.length)) (Ok t)
 
 -- by what is known of a refusal, of a row that the room holds and of one that it does not
 told_as : (room : ℕ) (S A : ℕ → ℕ → ℕ → Type 0) → ((n v f : ℕ) → S n v f → (n ≡ 0 → ⊥) → A n v f) → ((n v f : ℕ) → S n v f → n ≡ 0 → v ≤ room → A 0 v f)
     → ((n v f : ℕ) → S n v f → n ≡ 0 → room < v → A 9 v 0)
     → (r : Outcome) → S (number_of r) (value_of r) (flag_of r) → A (number_of (tell r room)) (value_of (tell r room)) (flag_of (tell r room))
-told_as room S A p q l outcome.LongPattern s = p _ _ _ s (λ z. omega arith)
-told_as room S A p q l outcome.LongText s = p _ _ _ s (λ z. omega arith)
-told_as room S A p q l outcome.FewCells s = p _ _ _ s (λ z. omega arith)
-told_as room S A p q l (outcome.NoPattern place) s = p _ _ _ s (λ z. omega arith)
-told_as room S A p q l outcome.TooDeep s = p _ _ _ s (λ z. omega arith)
-told_as room S A p q l outcome.ManyPositions s = p _ _ _ s (λ z. omega arith)
-told_as room S A p q l outcome.ManyMarks s = p _ _ _ s (λ z. omega arith)
-told_as room S A p q l (outcome.NoTree place) s = p _ _ _ s (λ z. omega arith)
-told_as room S A p q l (outcome.SmallRoom k) s = p _ _ _ s (λ z. omega arith)
-told_as room S A p q l (outcome.Tree k o) s = go (ltb room k) refl
+told_as room S A p q l (Err r) s = p _ _ _ s (refusal_some r)
+told_as room S A p q l (Ok t) s = go (ltb room t.length) refl
   where
-    go : (t : Bool) → ltb room k ≡ t → A (number_of (tree_told k o t)) (value_of (tree_told k o t)) (flag_of (tree_told k o t))
+    go : (b : Bool) → ltb room t.length ≡ b → A (number_of (tree_told t b)) (value_of (tree_told t b)) (flag_of (tree_told t b))
     go true e = l _ _ _ s refl (ltb-true _ _ e)
     go false e = q _ _ _ s refl (ltb-false _ _ e)
 
@@ -87,15 +99,3 @@ told_judged {e} {text} {room} {room'} r i s =
 pub answered_as : {pat text cells room cells' room' : List ℕ} {o : Outcome} (r : Outcome) → o ≡ tell r (length room) → Searched pat text cells room (number_of r) (value_of r) (flag_of r) cells' room'
     → Answered pat text cells room (number_of o) (value_of o) (flag_of o) cells' room'
 answered_as r e s = rw e (told_answered r s)
-
--- what `tell` says, by whether there is a tree and the room holds its row
-pub tells_long : {length room : ℕ} (r : Outcome) → number_of r ≡ 0 → length ≡ value_of r → room < length → outcome.SmallRoom length ≡ tell r room
-tells_long {length} {room} r z e h =
-    ap outcome.SmallRoom e ∙ sym (ap₂ (λ (a b : Bool). cond (a && b) (outcome.SmallRoom (value_of r)) r) (eq-eqb (number_of r) 0 z) (lt-ltb room (value_of r) (omega arith)))
-
-pub tells_held : {length room : ℕ} (r : Outcome) → number_of r ≡ 0 → length ≡ value_of r → length ≤ room → r ≡ tell r room
-tells_held {length} {room} r z e h =
-    sym (ap₂ (λ (a b : Bool). cond (a && b) (outcome.SmallRoom (value_of r)) r) (eq-eqb (number_of r) 0 z) (le-ltb room (value_of r) (omega arith)))
-
-pub tells_refusal : (r : Outcome) (room : ℕ) → (number_of r ≡ 0 → ⊥) → r ≡ tell r room
-tells_refusal r room z = sym (ap (λ (a : Bool). cond (a && ltb room (value_of r)) (outcome.SmallRoom (value_of r)) r) (ne_eqb (number_of r) 0 z))

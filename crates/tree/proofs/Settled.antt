@@ -1,5 +1,5 @@
 -- One answer for each input: two outcomes that the promise allows are the same, the lent rows included. Assumes nothing.
-use mathlib.Core.Path.{◌≡◌, refl, sym, ◌∙◌}
+use mathlib.Core.Path.{◌≡◌, refl, sym, ap, ◌∙◌}
 use mathlib.Core.Bool.{Bool, true, false, cond}
 use mathlib.Core.List.{List}
 use Prim.Native.Nat.{ℕ, max, ◌≤◌, ◌<◌}
@@ -10,9 +10,11 @@ use lib.ListN.{length, replicate, length-replicate}
 use borrow.Author.Tests.{eqb-true, eqb-false}
 use Rattle.meaning.specs.Promise.{Answered}
 use Rattle.laws.specs.Promises.{answered_one}
-use Rattle.tree.specs.declared.outcome.Outcome.{Outcome}
-use Rattle.tree.specs.declared.outcome.Outcome.TheVariants as outcome
-use Rattle.tree.specs.Outcome.{number_of, value_of, flag_of}
+use Rattle.std.proofs.Common.{Ok, Err}
+use Rattle.pattern.specs.declared.Refusal.TheVariants as refused
+use Rattle.tree.specs.declared.outcome.Refusal.{Refusal}
+use Rattle.tree.specs.declared.outcome.Refusal.TheVariants as outcome
+use Rattle.tree.specs.Outcome.{Outcome, number_of, value_of, flag_of}
 use Rattle.tree.specs.Search.{no_tree, a_tree, Searched, sought}
 use Rattle.tree.proofs.Answers.{plain, fits, long}
 
@@ -21,31 +23,36 @@ same_three : {A : Type 0} (make : ℕ → ℕ → ℕ → A) {n n' v v' f f' : �
 same_three make i j k = rw (i, j, k)
 
 -- the answer that a number, a value and a flag stand for
-outcome_of : ℕ → ℕ → ℕ → Outcome
-outcome_of n v f =
-    cond (eqb n 0) (outcome.Tree v (eqb f 1))
-    (cond (eqb n 1) outcome.LongPattern
+refusal_of : ℕ → ℕ → Refusal
+refusal_of n v =
+    cond (eqb n 1) (outcome.Pattern refused.TooLong)
     (cond (eqb n 2) outcome.LongText
     (cond (eqb n 3) outcome.FewCells
-    (cond (eqb n 4) (outcome.NoPattern v)
-    (cond (eqb n 5) outcome.TooDeep
-    (cond (eqb n 6) outcome.ManyPositions
-    (cond (eqb n 7) outcome.ManyMarks
-    (cond (eqb n 8) (outcome.NoTree v) (outcome.SmallRoom v)))))))))
+    (cond (eqb n 4) (outcome.Pattern (refused.NoPattern v))
+    (cond (eqb n 5) (outcome.Pattern refused.TooDeep)
+    (cond (eqb n 6) (outcome.Pattern refused.ManyPositions)
+    (cond (eqb n 7) (outcome.Pattern refused.ManyMarks)
+    (cond (eqb n 8) (outcome.NoTree v) (outcome.SmallRoom v))))))))
+
+outcome_of : ℕ → ℕ → ℕ → Outcome
+outcome_of n v f = cond (eqb n 0) (Ok (record { length = v; other = eqb f 1 })) (Err (refusal_of n v))
+
+other_same : (o : Bool) → eqb (cond o 1 0) 1 ≡ o
+other_same true = refl
+other_same false = refl
 
 outcome_same : (r : Outcome) → outcome_of (number_of r) (value_of r) (flag_of r) ≡ r
-unfolding outcome_of
-outcome_same outcome.LongPattern = refl
-outcome_same outcome.LongText = refl
-outcome_same outcome.FewCells = refl
-outcome_same (outcome.NoPattern place) = refl
-outcome_same outcome.TooDeep = refl
-outcome_same outcome.ManyPositions = refl
-outcome_same outcome.ManyMarks = refl
-outcome_same (outcome.NoTree place) = refl
-outcome_same (outcome.SmallRoom l) = refl
-outcome_same (outcome.Tree l true) = refl
-outcome_same (outcome.Tree l false) = refl
+unfolding outcome_of refusal_of
+outcome_same (Err (outcome.Pattern refused.TooLong)) = refl
+outcome_same (Err (outcome.Pattern (refused.NoPattern place))) = refl
+outcome_same (Err (outcome.Pattern refused.TooDeep)) = refl
+outcome_same (Err (outcome.Pattern refused.ManyPositions)) = refl
+outcome_same (Err (outcome.Pattern refused.ManyMarks)) = refl
+outcome_same (Err outcome.LongText) = refl
+outcome_same (Err outcome.FewCells) = refl
+outcome_same (Err (outcome.NoTree place)) = refl
+outcome_same (Err (outcome.SmallRoom l)) = refl
+outcome_same (Ok t) = ap (λ (o : Bool). Ok (record { length = t.length; other = o })) (other_same t.other)
 
 outcomes : (r r' : Outcome) → number_of r ≡ number_of r' → value_of r ≡ value_of r' → flag_of r ≡ flag_of r' → r ≡ r'
 outcomes r r' i j k = sym (outcome_same r) ∙ same_three outcome_of i j k ∙ outcome_same r'

@@ -1,5 +1,5 @@
 -- What the parts of the search ask and what they find. Assumes nothing: these are definitions.
-use Rattle.std.specs.Prelude.{◌≡◌, List, ℕ, suc, ◌≤◌, ◌<◌, length, drop, replicate}
+use Rattle.std.specs.Prelude.{◌≡◌, List, ℕ, ◌-◌, ◌≤◌, ◌<◌, length, drop, replicate}
 use Rattle.meaning.specs.Expression.{Re, marks, size}
 use Rattle.meaning.specs.Grammar.{Bytes}
 use Rattle.meaning.specs.Limits.{text_limit, mark_limit, position_limit, cells_for}
@@ -12,72 +12,74 @@ use Rattle.positions.specs.Alive.{alive}
 use Rattle.positions.specs.Tests.{reads}
 use Rattle.passes.specs.Masks.{classed}
 use Rattle.passes.specs.Tables.{Tables}
-use Rattle.passes.specs.Ways.{Preceding}
-use Rattle.sets.specs.declared.set.Set.{Set}
-use Rattle.sets.specs.Members.{has, limit, row, rows}
-use Rattle.walks.specs.Root.{Charted}
-use Rattle.tree.specs.declared.outcome.Outcome.{Outcome}
-use Rattle.tree.specs.Outcome.{number_of, value_of, flag_of}
+use Rattle.passes.specs.Ways.{Memo, Preceding}
+use Rattle.sets.specs.Members.{has, held, limit, none, row, rows}
+use Rattle.along.specs.Links.{ChartedBy, Stock}
+use Rattle.kinds.specs.Nodes.{kinds_of, args_of}
+use Rattle.kinds.specs.declared.ReadPattern.{ReadPattern}
+use Rattle.tree.specs.declared.judge.Kept.{Kept}
+use Rattle.tree.specs.declared.prepare.Reader.{Reader}
+use Rattle.tree.specs.Outcome.{Outcome, number_of, value_of, flag_of}
 use Rattle.tree.specs.Search.{Sought}
 
--- the root holds e, which is within the limits, has k marks, and can be read
-pub record Rooted (e : Re) (ks gs : List ℕ) (root k : ℕ) : Type 0 where
-  pub holds : Holds ks gs 0 0 root e
-  pub within : root < 1024
+-- the read pattern holds e up to its last node; e is within the limits, has its marks, and can be read
+pub record Rooted (e : Re) (pattern : ReadPattern) : Type 0 where
+  pub some : 1 ≤ pattern.nodes
+  pub holds : Holds (kinds_of pattern.node) (args_of pattern.node) 0 0 (pattern.nodes - 1) e
+  pub within : pattern.nodes - 1 < 1024
   pub fair : Fair e
   pub can_read : Open e
   pub few_marks : marks e ≤ mark_limit
   pub few_positions : size e ≤ position_limit
-  pub marks_are : k ≡ marks e
+  pub marks_are : pattern.marks ≡ marks e
 
--- the read pattern holds e up to the root, and its n positions have these classes
-pub record Given (e : Re) (ks gs cs : List ℕ) (root n k : ℕ) : Type 0 where
-  pub rooted : Rooted e ks gs root k
-  pub all : nodes e ≡ suc root
-  pub positions_are : n ≡ size e
-  pub classes : (q b : ℕ) → b < 256 → reads 0 e q b ≡ classed cs n q b
-
--- for some e
-pub record Gives (ks gs cs : List ℕ) (root n k : ℕ) : Type 0 where
-  pub e : Re
-  pub given : Given e ks gs cs root n k
-
--- tables of zeros
-pub record Blank (ns fs us mask follow pre : List ℕ) : Type 0 where
-  pub nulls : ns ≡ replicate 1024 0
-  pub firsts : fs ≡ replicate 1024 0
-  pub uptos : us ≡ replicate 1024 0
-  pub masks : mask ≡ replicate 256 0
-  pub follows : follow ≡ replicate limit 0
-  pub pres : pre ≡ replicate limit 0
-
--- the root holds e, and the tables are exact
-pub record Prepared (e : Re) (ks gs ns fs us mask follow pre : List ℕ) (root k : ℕ) (last : Set) : Type 0 where
-  pub rooted : Rooted e ks gs root k
-  pub charted : Charted ks gs ns fs us follow root
-  pub each_byte : rows mask ≡ 256
-  pub preceding : Preceding follow pre
-  pub tables : Tables e mask follow last (row fs root)
+-- and nothing beside it, and its positions have these classes
+pub record Given (e : Re) (pattern : ReadPattern) : Type 0 where
+  pub rooted : Rooted e pattern
+  pub all : nodes e ≡ pattern.nodes
+  pub positions_are : pattern.positions ≡ size e
+  pub classes : (q b : ℕ) → b < 256 → reads 0 e q b ≡ classed pattern.class pattern.positions q b
 
 -- for some e
-pub record Prepares (ks gs ns fs us mask follow pre : List ℕ) (root k : ℕ) (last : Set) : Type 0 where
+pub record Gives (pattern : ReadPattern) : Type 0 where
   pub e : Re
-  pub prepared : Prepared e ks gs ns fs us mask follow pre root k last
+  pub given : Given e pattern
 
--- the root holds e, the tables are exact, and the cells hold the positions that are alive at each place of the text
-pub record Judgeable (e : Re) (ks gs fs mask follow : List ℕ) (root k : ℕ) (text cells : List ℕ) : Type 0 where
-  pub rooted : Rooted e ks gs root k
+-- no position reads a byte yet, and none comes before another
+pub record Blank (r : Reader) : Type 0 where
+  pub masks : r.mask ≡ replicate 256 none
+  pub pres : r.pre ≡ replicate limit none
+
+-- the read pattern holds e, and the tables are exact
+pub record Prepared (e : Re) (pattern : ReadPattern) (r : Reader) : Type 0 where
+  pub rooted : Rooted e pattern
+  pub charted : ChartedBy r.tables pattern (pattern.nodes - 1)
+  pub each_byte : rows r.mask ≡ 256
+  pub preceding : Preceding r.tables.follow r.pre
+  pub tables : Tables e r.mask r.tables.follow r.last (row r.tables.nodes.first (pattern.nodes - 1))
+
+-- for some e
+pub record Prepares (pattern : ReadPattern) (r : Reader) : Type 0 where
+  pub e : Re
+  pub prepared : Prepared e pattern r
+
+-- what is kept from text to text is right
+pub record Serves (pattern : ReadPattern) (r : Reader) (k : Kept) : Type 0 where
+  pub memo : Memo r.mask r.pre k.memo
+  pub stock : Stock pattern (pattern.nodes - 1) k.links
+
+-- the tables are exact, and the cells hold the positions that are alive at each place of the text
+pub record Judgeable (e : Re) (pattern : ReadPattern) (r : Reader) (text cells : List ℕ) : Type 0 where
+  pub prepared : Prepared e pattern r
   pub bytes : Bytes text
   pub short : length text ≤ text_limit
-  pub enough : length text < rows cells
-  pub living : (i q : ℕ) → i ≤ length text → has (row cells i) q ≡ alive e (drop i text) q
-  pub last : Set
-  pub tables : Tables e mask follow last (row fs root)
+  pub enough : length text < length cells
+  pub living : (i q : ℕ) → i ≤ length text → has (row (held cells) i) q ≡ alive e (drop i text) q
 
 -- for some e
-pub record Judges (ks gs fs mask follow : List ℕ) (root k : ℕ) (text cells : List ℕ) : Type 0 where
+pub record Judges (pattern : ReadPattern) (r : Reader) (text cells : List ℕ) : Type 0 where
   pub e : Re
-  pub judgeable : Judgeable e ks gs fs mask follow root k text cells
+  pub judgeable : Judgeable e pattern r text cells
 
 abbrev pub SoughtAs : Re → List ℕ → List ℕ → List ℕ → Outcome → Type 0
 SoughtAs e text t t' r = Sought e text t (number_of r) (value_of r) (flag_of r) t'

@@ -1,40 +1,42 @@
 -- The number, value and flag that an answer of the first tree stands for. Assumes nothing: these are definitions.
-use Rattle.std.specs.Prelude.{cond, ℕ}
-use Rattle.tree.specs.declared.outcome.Outcome.{Outcome}
-use Rattle.tree.specs.declared.outcome.Outcome.TheVariants.{LongPattern, LongText, FewCells, NoPattern, TooDeep, ManyPositions, ManyMarks, NoTree, SmallRoom, Tree}
+use Rattle.std.specs.Prelude.{cond, ℕ, Result, Ok, Err}
+use Rattle.along.specs.declared.walk.Walked.{Walked}
+use Rattle.pattern.specs.Answers as pattern
+use Rattle.tree.specs.declared.outcome.Refusal.{Refusal}
+use Rattle.tree.specs.declared.outcome.Refusal.TheVariants.{Pattern, LongText, FewCells, NoTree, SmallRoom}
+use Rattle.tree.specs.declared.outcome.Tree.{Tree}
+
+-- what a walk comes to
+abbrev pub tree_of : Walked → Tree
+tree_of w = record { length = w.length; other = w.other }
+
+-- of a refusal; what a refused pattern stands for, the pattern reader says
+abbrev pub refusal_number : Refusal → ℕ
+refusal_number (Pattern why) = pattern.refusal_number why
+refusal_number LongText = 2
+refusal_number FewCells = 3
+refusal_number (NoTree place) = 8
+refusal_number (SmallRoom length) = 9
+
+abbrev pub refusal_value : Refusal → ℕ
+refusal_value (Pattern why) = pattern.refusal_value why
+refusal_value LongText = 0
+refusal_value FewCells = 0
+refusal_value (NoTree place) = place
+refusal_value (SmallRoom length) = length
+
+-- of an answer
+abbrev pub Outcome : Type 0
+Outcome = Result Tree Refusal
 
 abbrev pub number_of : Outcome → ℕ
-number_of LongPattern = 1
-number_of LongText = 2
-number_of FewCells = 3
-number_of (NoPattern place) = 4
-number_of TooDeep = 5
-number_of ManyPositions = 6
-number_of ManyMarks = 7
-number_of (NoTree place) = 8
-number_of (SmallRoom length) = 9
-number_of (Tree length other) = 0
+number_of (Ok tree) = 0
+number_of (Err refusal) = refusal_number refusal
 
 abbrev pub value_of : Outcome → ℕ
-value_of LongPattern = 0
-value_of LongText = 0
-value_of FewCells = 0
-value_of (NoPattern place) = place
-value_of TooDeep = 0
-value_of ManyPositions = 0
-value_of ManyMarks = 0
-value_of (NoTree place) = place
-value_of (SmallRoom length) = length
-value_of (Tree length other) = length
+value_of (Ok tree) = tree.length
+value_of (Err refusal) = refusal_value refusal
 
 abbrev pub flag_of : Outcome → ℕ
-flag_of LongPattern = 0
-flag_of LongText = 0
-flag_of FewCells = 0
-flag_of (NoPattern place) = 0
-flag_of TooDeep = 0
-flag_of ManyPositions = 0
-flag_of ManyMarks = 0
-flag_of (NoTree place) = 0
-flag_of (SmallRoom length) = 0
-flag_of (Tree length other) = cond other 1 0
+flag_of (Ok tree) = cond tree.other 1 0
+flag_of (Err refusal) = 0

@@ -1,14 +1,13 @@
 -- The search for the first tree: which number, value and flag may come of an input, and which contents of the lent rows. Where there is a
 -- tree, its length and its flag are said whether or not the room holds its row. Assumes nothing: these are definitions.
-use Rattle.std.specs.Prelude.{◌&&◌, cond, List, ℕ, ◌≤◌, ◌<◌, eqb, leb, ltb, length}
+use Rattle.std.specs.Prelude.{cond, List, ℕ, ◌≤◌, ◌<◌, leb, ltb, length, Ok, Err}
 use Rattle.meaning.specs.Expression.{Re}
 use Rattle.meaning.specs.Grammar.{Longest}
 use Rattle.meaning.specs.Limits.{pattern_limit, text_limit, cells_for}
 use Rattle.meaning.specs.Promise.{Refused, Accepted, Ready, cleared, written}
 use Rattle.meaning.specs.Tree.{First, Flag, NoTree, Begins}
-use Rattle.tree.specs.declared.outcome.Outcome.{Outcome}
-use Rattle.tree.specs.declared.outcome.Outcome.TheVariants.{SmallRoom}
-use Rattle.tree.specs.Outcome.{number_of, value_of}
+use Rattle.tree.specs.declared.outcome.Refusal.TheVariants.{SmallRoom}
+use Rattle.tree.specs.Outcome.{Outcome}
 
 -- the row at the front, if the room holds it
 abbrev pub kept : List ℕ → List ℕ → List ℕ
@@ -30,4 +29,5 @@ pub data Searched (pat text cells room : List ℕ) : ℕ → ℕ → ℕ → Lis
 
 -- what is told of it in a room of so many tokens: of a tree whose row the room does not hold, the length alone
 abbrev pub tell : Outcome → ℕ → Outcome
-tell r room = cond (eqb (number_of r) 0 && ltb room (value_of r)) (SmallRoom (value_of r)) r
+tell (Ok tree) room = cond (ltb room tree.length) (Err (SmallRoom tree.length)) (Ok tree)
+tell (Err refusal) room = Err refusal

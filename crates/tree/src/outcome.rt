@@ -1,36 +1,81 @@
 // What an answer of the first tree says: its number, its value and its flag.
-ghost use Rattle.std.specs.Prelude.{◌≡◌};
-ghost use Rattle.tree.specs.Outcome.{number_of, value_of, flag_of};
+ghost use Rattle.std.specs.Prelude.{◌≡◌, Err};
+ghost use Rattle.tree.specs.declared.outcome.Refusal.TheVariants.{Pattern};
+ghost use Rattle.tree.specs.Outcome.{refusal_number, refusal_value, number_of, value_of, flag_of, tree_of};
 
-// One for each line of the table of answers: the place, the length, the length and whether another tree exists.
-#[derive(Clone, Copy)]
-pub enum Outcome {
-    LongPattern,
-    LongText,
-    FewCells,
-    NoPattern(usize),
-    TooDeep,
-    ManyPositions,
-    ManyMarks,
-    NoTree(usize),
-    SmallRoom(usize),
-    Tree(usize, bool),
+use along::walk::Walked;
+
+// The first tree of a text: how many tokens its row has, and whether another tree exists.
+#[derive(Clone, Copy, PartialEq, Eq, Debug)]
+pub struct Tree {
+    pub length: usize,
+    pub other: bool,
 }
 
+impl From<Walked> for Tree {
+    ghost from_gives = { λ w tree. tree ≡ tree_of w };
+
+    fn from(w: Walked) -> Tree {
+        Tree {
+            length: w.length,
+            other: w.other,
+        }
+    }
+}
+
+// Why there is no tree to hand out: the pattern is refused, the text is too long, the cells are too few, no tree exists, or the room does
+// not hold its row. Beside the last two stand the place up to which the text can be read, and the length of the row.
+#[derive(Clone, Copy, PartialEq, Eq, Debug)]
+pub enum Refusal {
+    Pattern(pattern::Refusal),
+    LongText,
+    FewCells,
+    NoTree(usize),
+    SmallRoom(usize),
+}
+
+pub type Outcome = Result<Tree, Refusal>;
+
+impl From<pattern::Refusal> for Refusal {
+    ghost from_gives = { λ why refusal. refusal ≡ Pattern why };
+
+    fn from(why: pattern::Refusal) -> Refusal {
+        Refusal::Pattern(why)
+    }
+}
+
+impl Refusal {
+    pub fn number(self) -> u32
+        ensures { result ≡ refusal_number self }
+    {
+        match self {
+            Refusal::Pattern(why) => why.number(),
+            Refusal::LongText => 2,
+            Refusal::FewCells => 3,
+            Refusal::NoTree(_) => 8,
+            Refusal::SmallRoom(_) => 9,
+        }
+    }
+
+    pub fn value(self) -> usize
+        ensures { result ≡ refusal_value self }
+    {
+        match self {
+            Refusal::Pattern(why) => why.value(),
+            Refusal::NoTree(place) => place,
+            Refusal::SmallRoom(length) => length,
+            _ => 0,
+        }
+    }
+}
+
+// The number of the line in the table of answers.
 pub fn number(o: Outcome) -> u32
     ensures { result ≡ number_of o }
 {
     match o {
-        Outcome::LongPattern => 1,
-        Outcome::LongText => 2,
-        Outcome::FewCells => 3,
-        Outcome::NoPattern(_) => 4,
-        Outcome::TooDeep => 5,
-        Outcome::ManyPositions => 6,
-        Outcome::ManyMarks => 7,
-        Outcome::NoTree(_) => 8,
-        Outcome::SmallRoom(_) => 9,
-        Outcome::Tree(_, _) => 0,
+        Ok(_) => 0,
+        Err(refusal) => refusal.number(),
     }
 }
 
@@ -38,16 +83,8 @@ pub fn value(o: Outcome) -> usize
     ensures { result ≡ value_of o }
 {
     match o {
-        Outcome::LongPattern => 0,
-        Outcome::LongText => 0,
-        Outcome::FewCells => 0,
-        Outcome::NoPattern(place) => place,
-        Outcome::TooDeep => 0,
-        Outcome::ManyPositions => 0,
-        Outcome::ManyMarks => 0,
-        Outcome::NoTree(place) => place,
-        Outcome::SmallRoom(length) => length,
-        Outcome::Tree(length, _) => length,
+        Ok(tree) => tree.length,
+        Err(refusal) => refusal.value(),
     }
 }
 
@@ -55,15 +92,7 @@ pub fn flag(o: Outcome) -> usize
     ensures { result ≡ flag_of o }
 {
     match o {
-        Outcome::LongPattern => 0,
-        Outcome::LongText => 0,
-        Outcome::FewCells => 0,
-        Outcome::NoPattern(_) => 0,
-        Outcome::TooDeep => 0,
-        Outcome::ManyPositions => 0,
-        Outcome::ManyMarks => 0,
-        Outcome::NoTree(_) => 0,
-        Outcome::SmallRoom(_) => 0,
-        Outcome::Tree(_, other) => { if other { 1 } else { 0 } }
+        Ok(tree) => usize::from(tree.other),
+        Err(_) => 0,
     }
 }

@@ -1,37 +1,58 @@
-// The tables of a read pattern, filled once for all the texts that are judged by it.
-ghost use Rattle.std.specs.Prelude.{◌≡◌, ℕ, ◌≤◌, length};
+// What a read pattern comes to before any text: its tables.
+ghost use Rattle.std.specs.Prelude.{◌-◌, ◌≤◌};
 ghost use Rattle.meaning.specs.Expression.{Re};
+ghost use Rattle.kinds.specs.Nodes.{kinds_of, args_of};
 ghost use Rattle.sets.specs.Members.{limit};
-ghost use Rattle.tree.specs.Judge.{Given, Blank, Prepared};
 ghost use Rattle.walks.specs.Root.{Root};
+ghost use Rattle.tree.specs.Judge.{Given, Blank, Prepared};
 
+use kinds::ReadPattern;
 use passes::masks::masks;
 use passes::reverse::reverse;
 use sets::set::Set;
-use walks::tables::tables;
+use walks::tables::{Openings, Tables};
 
-// Fills the tables of the read pattern whose last node is `root`, and hands back the positions that may be the last.
-pub fn prepare<'a>(
-    kind: &'a [u8; 1024],
-    arg: &'a [u16; 1024],
-    class: &[u64; 256],
-    root: usize,
-    positions: usize,
-    null: &mut [u8; 1024],
-    first: &mut [u64; 1024],
-    upto: &mut [u16; 1024],
-    mask: &mut [u64; 256],
-    follow: &mut [u64; 64],
-    pre: &mut [u64; 64],
-) -> Set
-    requires rooted { Root kind.now arg.now root }
-    requires few_positions { positions ≤ limit }
-    requires blank { Blank null.old first.old upto.old mask.old follow.old pre.old }
-    ensures { (e : Re) (marks : ℕ) → Given e kind.now arg.now class.now root positions marks
-        → Prepared e kind.now arg.now null.new first.new upto.new mask.new follow.new pre.new root marks result }
-{
-    let last = tables(kind, arg, null, first, upto, follow, root);
-    masks(class, positions, mask);
-    reverse(follow, pre);
-    last
+// What is computed once of a read pattern, for all the texts that are judged by it: the tables of its nodes and of what may follow each
+// position, the positions that read each byte, those that may come before each, and those that may be the last.
+#[derive(Clone, Copy)]
+pub struct Reader {
+    pub tables: Tables,
+    pub mask: [Set; 256],
+    pub pre: [Set; 64],
+    pub last: Set,
+}
+
+impl Reader {
+    // Tables with nothing in them.
+    pub fn blank() -> Reader
+        ensures { Blank result }
+    {
+        let none = Set::empty();
+        Reader {
+            tables: Tables {
+                nodes: Openings {
+                    null: [false; 1024],
+                    first: [none; 1024],
+                    upto: [0; 1024],
+                },
+                follow: [none; 64],
+            },
+            mask: [none; 256],
+            pre: [none; 64],
+            last: none,
+        }
+    }
+
+    // Fills the tables for the read pattern.
+    pub fn prepare(&mut self, pattern: &ReadPattern)
+        requires some { 1 ≤ pattern.now.nodes }
+        requires rooted { Root (kinds_of pattern.now.node) (args_of pattern.now.node) (pattern.now.nodes - 1) }
+        requires few_positions { pattern.now.positions ≤ limit }
+        requires blank { Blank self.old }
+        ensures { (e : Re) → Given e pattern.now → Prepared e pattern.now self.new }
+    {
+        self.last = self.tables.fill(pattern, pattern.nodes - 1);
+        masks(&pattern.class, pattern.positions, &mut self.mask);
+        reverse(&self.tables.follow, &mut self.pre);
+    }
 }

@@ -4,9 +4,7 @@ ghost use Rattle.meaning.specs.Limits.{text_limit, mark_limit, cells_for, room_f
 ghost use Rattle.tree.specs.Lending.{Enough};
 
 use crate::search::TEXT_LIMIT;
-
-// A pattern has no more marks.
-const MARK_LIMIT: usize = 64;
+use pattern::MARK_LIMIT;
 
 // The work cells that a text of n bytes asks for.
 fn cells_for(n: usize) -> usize
@@ -36,6 +34,7 @@ pub struct Lending {
 
 // What to lend for a pattern with so many marks and a text of n bytes. A text over its limit asks for nothing: it is refused before the
 // cells are looked at; and so many marks are refused before the room is.
+#[tactic(auto, using(crate::specs::Lending::long_text, crate::specs::Lending::over_marks, crate::specs::Lending::enough))]
 pub fn to_lend(marks: usize, n: usize) -> Lending
     ensures { Enough marks n result.cells result.tokens }
 {
@@ -46,7 +45,7 @@ pub fn to_lend(marks: usize, n: usize) -> Lending
         };
     }
     let cells = cells_for(n);
-    if MARK_LIMIT < marks {
+    if usize::from(MARK_LIMIT) < marks {
         return Lending { cells, tokens: 0 };
     }
     Lending {

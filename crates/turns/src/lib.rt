@@ -12,29 +12,24 @@ pub const MARK_LIMIT: usize = 64;
 // A mark is closed by its number and this.
 const CLOSING: u16 = 128;
 
-#[derive(Clone, Copy)]
-pub enum TurnCount {
-    Count(usize),
-    NoMark,
-}
+// No mark has the number.
+#[derive(Clone, Copy, PartialEq, Eq, Debug)]
+pub struct NoMark;
 
-// Its number and its count.
-pub fn number(t: TurnCount) -> u32
+// The number and the count of an answer.
+pub fn number(t: Result<usize, NoMark>) -> u32
     ensures { result ≡ number_of t }
 {
     match t {
-        TurnCount::Count(_) => 0,
-        TurnCount::NoMark => 10,
+        Ok(_) => 0,
+        Err(NoMark) => 10,
     }
 }
 
-pub fn count(t: TurnCount) -> usize
+pub fn count(t: Result<usize, NoMark>) -> usize
     ensures { result ≡ count_of t }
 {
-    match t {
-        TurnCount::Count(n) => n,
-        TurnCount::NoMark => 0,
-    }
+    t.unwrap_or(0)
 }
 
 // What stands behind a place of a row: whether the mark is closed there, whether an opening at the place is counted, and how many openings
@@ -52,46 +47,39 @@ fn lengthened(behind: Behind, token: u16, mark: u16) -> Behind
     requires few_turns { behind.turns < 9223372036854775808 }
     ensures { Lengthens mark token behind result }
 {
-    let mut next = behind;
-    if token == mark {
-        if behind.counted {
-            next.turns += 1;
-        }
-        return next;
+    match token {
+        t if t == mark => Behind {
+            turns: behind.turns + usize::from(behind.counted),
+            ..behind
+        },
+        t if t == mark + CLOSING => Behind {
+            closed: true,
+            counted: false,
+            ..behind
+        },
+        // a byte
+        256..=511 => Behind {
+            counted: behind.closed,
+            ..behind
+        },
+        _ => behind,
     }
-    if token == mark + CLOSING {
-        next.closed = true;
-        next.counted = false;
-        return next;
-    }
-    // a byte token is 256 to 511
-    if 256 <= token {
-        if token <= 511 {
-            next.counted = behind.closed;
-        }
-    }
-    next
 }
 
 // From the end of the row to its front, so that what an opening waits for has been seen.
-pub fn turns(row: &[u16], mark: usize) -> TurnCount
+pub fn turns(row: &[u16], mark: usize) -> Result<usize, NoMark>
     ensures { Counted row.now mark (number_of result) (count_of result) }
 {
-    if mark < 1 {
-        return TurnCount::NoMark;
-    }
-    if MARK_LIMIT < mark {
-        return TurnCount::NoMark;
+    if mark < 1 || MARK_LIMIT < mark {
+        return Err(NoMark);
     }
     let mut behind = Behind {
         closed: false,
         counted: false,
         turns: 0,
     };
-    let mut i = row.len();
-    while 0 < i {
-        i -= 1;
-        behind = lengthened(behind, row[i], mark as u16);
+    for token in row.iter().rev() {
+        behind = lengthened(behind, *token, mark as u16);
     }
-    TurnCount::Count(behind.turns)
+    Ok(behind.turns)
 }

@@ -1,21 +1,20 @@
 -- What the tables say of a node and a goal is what the tests on its expression say. Assumes nothing.
-use mathlib.Core.Path.{◌≡◌, refl, sym, ◌∙◌}
-use mathlib.Core.Bool.{Bool, true, false, not}
+use mathlib.Core.Path.{◌≡◌, sym, ◌∙◌}
+use mathlib.Core.Bool.{Bool, true, false}
 use mathlib.Core.List.{List}
 use mathlib.Core.Logic.{◌↔◌}
 use Prim.Native.Nat.{ℕ, ◌≤◌}
 use native.Mathlib.Omega.{arith}
-use lib.Dec.{eqb}
 use lib.ListN.{get_or}
 use Rattle.meaning.specs.Expression.{Re}
 use Rattle.grammar.specs.Holds.{Holds}
-use Rattle.positions.specs.Tests.{leads, feasible, nullable}
+use Rattle.positions.specs.Tests.{leads, feasible}
 use Rattle.positions.specs.Sets.{firsts, Meet, meet, leads_meet}
 use Rattle.bits.specs.Truth.{alike}
 use Rattle.sets.specs.declared.set.Set.{Set}
 use Rattle.sets.specs.Members.{has, meets, row}
 use Rattle.sets.proofs.SetLaws.{meets_some, meets_at}
-use Rattle.walks.specs.Tables.{FirstAt, flag}
+use Rattle.walks.specs.Tables.{FirstAt}
 use Rattle.walks.specs.Enter.{open_to, Scanned}
 
 -- a set with the members that f tells meets the goal where f does
@@ -31,17 +30,13 @@ meets_leads {m = m} {p = p} {e = e} s goal F h =
     let l = leads_meet p e (has goal) in
     alike (meets s goal) (leads p e (has goal)) (λ z. l.1 (w.0 z)) (λ z. w.1 (l.0 z))
 
-pub flag_of : (n : Bool) → not (eqb (flag n) 0) ≡ n
-flag_of true = refl
-flag_of false = refl
-
-module _ {ks gs ns fs : List ℕ} {i j : ℕ} (T : Scanned ks gs ns fs i) (le : j ≤ i) where
+module _ {ks gs : List ℕ} {ns : List Bool} {fs : List Set} {i j : ℕ} (T : Scanned ks gs ns fs i) (le : j ≤ i) where
   pub goes_is : {m p : ℕ} {e : Re} {r : Bool} (goal : Set) → r ≡ meets (row fs j) goal → Holds ks gs m p j e → r ≡ leads p e (has goal)
   goes_is goal q h = q ∙ meets_leads (row fs j) goal (T.first j le) h
 
-  pub open_is : {m p : ℕ} {e : Re} {r : Bool} (goal : Set) (pass : Bool) → r ≡ open_to (meets (row fs j) goal) (get_or ns j 0) pass → Holds ks gs m p j e → r ≡ feasible p e (has goal) pass
+  pub open_is : {m p : ℕ} {e : Re} {r : Bool} (goal : Set) (pass : Bool) → r ≡ open_to (meets (row fs j) goal) (get_or ns j false) pass → Holds ks gs m p j e → r ≡ feasible p e (has goal) pass
   unfolding open_to
-  open_is {m} {p} {e} goal pass q h = q ∙ rw (meets_leads (row fs j) goal (T.first j le) h, T.null j le e m p h, flag_of (nullable e))
+  open_is {m} {p} {e} goal pass q h = q ∙ rw (meets_leads (row fs j) goal (T.first j le) h, T.null j le e m p h)
 
   pub scanned_to : Scanned ks gs ns fs j
   scanned_to = record { null = λ n h. T.null n (omega arith); first = λ n h. T.first n (omega arith); long = T.long }

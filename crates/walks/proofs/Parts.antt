@@ -1,15 +1,37 @@
 -- A node and its parts, by the kind of the node. Assumes nothing.
-use mathlib.Core.Path.{◌≡◌, refl}
+use mathlib.Core.Path.{◌≡◌, refl, sym, ap, ◌∙◌}
 use mathlib.Core.Bool.{Bool}
 use mathlib.Core.List.{List}
+use mathlib.Core.Logic.{◌⊎◌, inl, inr}
 use Prim.Native.Nat.{ℕ, suc, ◌+◌, ◌-◌, ◌<◌, ◌≤◌}
 use native.Mathlib.Omega.{arith}
 use lib.ListN.{get_or}
+use Rattle.kinds.specs.declared.Node.{Node}
+use Rattle.kinds.specs.declared.Node.TheVariants.{Eps, Pos, Cat, Alt, Branch, Star, Plus, Opt}
+use Rattle.kinds.specs.Nodes.{kind_of, arg_of, kinds_of, args_of}
+use Rattle.kinds.proofs.NodeLaws.{kind_at, arg_at}
 use Rattle.meaning.specs.Expression.{Re, eps, pos, cat, alt, branch, star, plus, opt, marks, size}
 use Rattle.meaning.specs.ReadPattern.{nodes}
 use Rattle.grammar.specs.Holds.{Holds, h_eps, h_pos, h_cat, h_alt, h_branch, h_star, h_plus, h_opt, Unary, Binary}
 use Rattle.sets.specs.Members.{limit}
 use Rattle.walks.specs.Tables.{Held}
+
+-- node i is of kind k, beside the number arg: it has no parts; it has one part; it has two
+pub record Bare (ks gs : List ℕ) (i k arg : ℕ) : Type 0 where
+  pub kind : get_or ks i 0 ≡ k
+  pub beside : get_or gs i 0 ≡ arg
+  pub none : k < 2
+
+pub record Sole (ks gs : List ℕ) (i k arg : ℕ) : Type 0 where
+  pub kind : get_or ks i 0 ≡ k
+  pub beside : get_or gs i 0 ≡ arg
+  pub one : 3 < k
+
+pub record Pair (ks gs : List ℕ) (i k arg : ℕ) : Type 0 where
+  pub kind : get_or ks i 0 ≡ k
+  pub beside : get_or gs i 0 ≡ arg
+  pub from_two : 2 ≤ k
+  pub to_three : k ≤ 3
 
 -- e, of a node of kind k, has no parts; the one part x; the parts x and y
 pub data Leaf (p : ℕ) : ℕ → ℕ → Re → Type 0 where
@@ -27,58 +49,151 @@ pub data Two : ℕ → Re → Re → Re → Type 0 where
   two_alt : {x y : Re} → Two 3 x y (alt x y)
 
 -- what a node with one part holds; with two
-pub record Single (ks gs : List ℕ) (m p i : ℕ) (e : Re) : Type 0 where
+pub record Single (ks gs : List ℕ) (m p i k arg : ℕ) (e : Re) : Type 0 where
   pub x : Re
-  pub is : One (get_or ks i 0) x e
+  pub is : One k x e
   pub above : 0 < i
-  pub mark : get_or gs i 0 ≡ suc m
+  pub mark : arg ≡ suc m
   pub part : Holds ks gs (suc m) p (i - 1) x
 
-pub record Double (ks gs : List ℕ) (m p i l : ℕ) (e : Re) : Type 0 where
+pub record Double (ks gs : List ℕ) (m p i k arg : ℕ) (e : Re) : Type 0 where
   pub x : Re
   pub y : Re
-  pub is : Two (get_or ks i 0) x y e
-  pub before : suc (l + nodes y) ≡ i
-  pub left : Holds ks gs m p l x
+  pub is : Two k x y e
+  pub before : suc (arg + nodes y) ≡ i
+  pub left : Holds ks gs m p arg x
   pub right : Holds ks gs (m + marks x) (p + size x) (i - 1) y
 
-module _ {ks gs : List ℕ} {m p i : ℕ} where
-  unary : {k : ℕ} {x e : Re} → Unary ks gs i k (suc m) → Holds ks gs (suc m) p (i - 1) x → One k x e → Single ks gs m p i e
-  unary {x = x} u h o = record { x = x; is = rw u.node.kind o; above = u.above; mark = u.mark; part = h }
+module _ {ks gs : List ℕ} {m p i k arg : ℕ} where
+  unary : {n : ℕ} {x e : Re} → Sole ks gs i k arg → Unary ks gs i n (suc m) → Holds ks gs (suc m) p (i - 1) x → One n x e → Single ks gs m p i k arg e
+  unary {x = x} N u h o = record { x = x; is = rw (sym N.kind, u.node.kind) o; above = u.above; mark = sym N.beside ∙ u.mark; part = h }
 
-  binary : {k l : ℕ} {x y e : Re} → l ≡ get_or gs i 0 → Binary ks gs i k (nodes y)
-      → Holds ks gs m p (get_or gs i 0) x → Holds ks gs (m + marks x) (p + size x) (i - 1) y → Two k x y e → Double ks gs m p i l e
-  binary {x = x} {y = y} q b l r o = record { x = x; y = y; is = rw b.node.kind o; before = rw q b.left; left = rw q l; right = r }
+  binary : {n : ℕ} {x y e : Re} → Pair ks gs i k arg → Binary ks gs i n (nodes y)
+      → Holds ks gs m p (get_or gs i 0) x → Holds ks gs (m + marks x) (p + size x) (i - 1) y → Two n x y e → Double ks gs m p i k arg e
+  binary {x = x} {y = y} N b l r o =
+      record { x = x; y = y; is = rw (sym N.kind, b.node.kind) o; before = omega (arith, b.left, N.beside); left = rw N.beside at l; right = r }
 
-  pub leaf : {e : Re} → get_or ks i 0 < 2 → Holds ks gs m p i e → Leaf p (get_or ks i 0) (get_or gs i 0) e
-  leaf k (h_eps n) = rw n.kind leaf_eps
-  leaf k (h_pos n a) = rw n.kind (leaf_pos a)
-  leaf k (h_cat b x y) = absurd (omega (arith, b.node.kind))
-  leaf k (h_alt b x y) = absurd (omega (arith, b.node.kind))
-  leaf k (h_branch u x) = absurd (omega (arith, u.node.kind))
-  leaf k (h_star u x) = absurd (omega (arith, u.node.kind))
-  leaf k (h_plus u x) = absurd (omega (arith, u.node.kind))
-  leaf k (h_opt u x) = absurd (omega (arith, u.node.kind))
+  pub leaf : {e : Re} → Bare ks gs i k arg → Holds ks gs m p i e → Leaf p k arg e
+  leaf N (h_eps n) = rw (sym N.kind, n.kind) leaf_eps
+  leaf N (h_pos n a) = rw (sym N.kind, n.kind) (leaf_pos (sym N.beside ∙ a))
+  leaf N (h_cat b x y) = absurd (omega (arith, N.none, N.kind, b.node.kind))
+  leaf N (h_alt b x y) = absurd (omega (arith, N.none, N.kind, b.node.kind))
+  leaf N (h_branch u x) = absurd (omega (arith, N.none, N.kind, u.node.kind))
+  leaf N (h_star u x) = absurd (omega (arith, N.none, N.kind, u.node.kind))
+  leaf N (h_plus u x) = absurd (omega (arith, N.none, N.kind, u.node.kind))
+  leaf N (h_opt u x) = absurd (omega (arith, N.none, N.kind, u.node.kind))
 
-  pub single : {e : Re} → 3 < get_or ks i 0 → Holds ks gs m p i e → Single ks gs m p i e
-  single k (h_eps n) = absurd (omega (arith, n.kind))
-  single k (h_pos n a) = absurd (omega (arith, n.kind))
-  single k (h_cat b x y) = absurd (omega (arith, b.node.kind))
-  single k (h_alt b x y) = absurd (omega (arith, b.node.kind))
-  single k (h_branch u x) = unary u x one_branch
-  single k (h_star u x) = unary u x one_star
-  single k (h_plus u x) = unary u x one_plus
-  single k (h_opt u x) = unary u x one_opt
+  pub single : {e : Re} → Sole ks gs i k arg → Holds ks gs m p i e → Single ks gs m p i k arg e
+  single N (h_eps n) = absurd (omega (arith, N.one, N.kind, n.kind))
+  single N (h_pos n a) = absurd (omega (arith, N.one, N.kind, n.kind))
+  single N (h_cat b x y) = absurd (omega (arith, N.one, N.kind, b.node.kind))
+  single N (h_alt b x y) = absurd (omega (arith, N.one, N.kind, b.node.kind))
+  single N (h_branch u x) = unary N u x one_branch
+  single N (h_star u x) = unary N u x one_star
+  single N (h_plus u x) = unary N u x one_plus
+  single N (h_opt u x) = unary N u x one_opt
 
-  pub double : {l : ℕ} {e : Re} → 2 ≤ get_or ks i 0 → get_or ks i 0 ≤ 3 → l ≡ get_or gs i 0 → Holds ks gs m p i e → Double ks gs m p i l e
-  double k k' q (h_eps n) = absurd (omega (arith, n.kind))
-  double k k' q (h_pos n a) = absurd (omega (arith, n.kind))
-  double k k' q (h_cat b x y) = binary q b x y two_cat
-  double k k' q (h_alt b x y) = binary q b x y two_alt
-  double k k' q (h_branch u x) = absurd (omega (arith, u.node.kind))
-  double k k' q (h_star u x) = absurd (omega (arith, u.node.kind))
-  double k k' q (h_plus u x) = absurd (omega (arith, u.node.kind))
-  double k k' q (h_opt u x) = absurd (omega (arith, u.node.kind))
+  pub double : {e : Re} → Pair ks gs i k arg → Holds ks gs m p i e → Double ks gs m p i k arg e
+  double N (h_eps n) = absurd (omega (arith, N.from_two, N.kind, n.kind))
+  double N (h_pos n a) = absurd (omega (arith, N.from_two, N.kind, n.kind))
+  double N (h_cat b x y) = binary N b x y two_cat
+  double N (h_alt b x y) = binary N b x y two_alt
+  double N (h_branch u x) = absurd (omega (arith, N.to_three, N.kind, u.node.kind))
+  double N (h_star u x) = absurd (omega (arith, N.to_three, N.kind, u.node.kind))
+  double N (h_plus u x) = absurd (omega (arith, N.to_three, N.kind, u.node.kind))
+  double N (h_opt u x) = absurd (omega (arith, N.to_three, N.kind, u.node.kind))
+
+  -- a node with parts has a node before it
+  pub above_one : {e : Re} → Sole ks gs i k arg → Holds ks gs m p i e → 0 < i
+  above_one N h = (single N h).above
+
+  pub above_two : {e : Re} → Pair ks gs i k arg → Holds ks gs m p i e → 0 < i
+  above_two N h = omega (arith, (double N h).before)
+
+-- ---- what a node of a row of nodes is in its rows of numbers
+
+module _ (ns : List Node) (i : ℕ) where
+  -- node i is x
+  abbrev Here : Node → Type 0
+  Here x = get_or ns i Eps ≡ x
+
+  pub eps_at : Here Eps → Bare (kinds_of ns) (args_of ns) i 0 0
+  eps_at e = record { kind = kind_at ns i _ e; beside = arg_at ns i _ e; none = omega arith }
+
+  pub pos_at : {q : ℕ} → Here (Pos q) → Bare (kinds_of ns) (args_of ns) i 1 q
+  pos_at e = record { kind = kind_at ns i _ e; beside = arg_at ns i _ e; none = omega arith }
+
+  pub cat_at : {left : ℕ} → Here (Cat left) → Pair (kinds_of ns) (args_of ns) i 2 left
+  cat_at e = record { kind = kind_at ns i _ e; beside = arg_at ns i _ e; from_two = omega arith; to_three = omega arith }
+
+  pub alt_at : {left : ℕ} → Here (Alt left) → Pair (kinds_of ns) (args_of ns) i 3 left
+  alt_at e = record { kind = kind_at ns i _ e; beside = arg_at ns i _ e; from_two = omega arith; to_three = omega arith }
+
+  pub pair_at : {left : ℕ} → Here (Cat left) ⊎ Here (Alt left) → Pair (kinds_of ns) (args_of ns) i (kind_of (get_or ns i Eps)) left
+  pair_at (inl e) = rw e (cat_at e)
+  pair_at (inr e) = rw e (alt_at e)
+
+  -- one of two kinds, both of one part, under the same mark
+  sole_at : {x y : Node} {mark : ℕ} → 3 < kind_of x → 3 < kind_of y → arg_of x ≡ mark → arg_of y ≡ mark → Here x ⊎ Here y
+      → Sole (kinds_of ns) (args_of ns) i (kind_of (get_or ns i Eps)) mark × ((kind_of (get_or ns i Eps) ≡ kind_of x) ⊎ (kind_of (get_or ns i Eps) ≡ kind_of y))
+  sole_at k k' a a' (inl e) = (record { kind = kind_at ns i _ refl; beside = arg_at ns i _ e ∙ a; one = rw e k }, inl (ap kind_of e))
+  sole_at k k' a a' (inr e) = (record { kind = kind_at ns i _ refl; beside = arg_at ns i _ e ∙ a'; one = rw e k' }, inr (ap kind_of e))
+
+  -- any kind of one part
+  abbrev Some : (ℕ → Node) → Type 0
+  Some of = (x : ℕ) × Here (of x)
+
+  one_at : {x : Node} → 3 < kind_of x → Here x → Sole (kinds_of ns) (args_of ns) i (kind_of (get_or ns i Eps)) (arg_of (get_or ns i Eps))
+  one_at k e = record { kind = kind_at ns i _ refl; beside = arg_at ns i _ refl; one = rw e k }
+
+  pub any_at : Some Branch ⊎ (Some Star ⊎ (Some Plus ⊎ Some Opt)) → Sole (kinds_of ns) (args_of ns) i (kind_of (get_or ns i Eps)) (arg_of (get_or ns i Eps))
+  any_at (inl e) = one_at (omega arith) e.1
+  any_at (inr (inl e)) = one_at (omega arith) e.1
+  any_at (inr (inr (inl e))) = one_at (omega arith) e.1
+  any_at (inr (inr (inr e))) = one_at (omega arith) e.1
+
+  pub leaf_at : Here Eps ⊎ Some Pos → Bare (kinds_of ns) (args_of ns) i (kind_of (get_or ns i Eps)) (arg_of (get_or ns i Eps))
+  leaf_at (inl e) = rw e (eps_at e)
+  leaf_at (inr e) = rw e.1 (pos_at e.1)
+
+  -- a node of two parts is one of the two
+  pub two_at : 2 ≤ get_or (kinds_of ns) i 0 → get_or (kinds_of ns) i 0 ≤ 3 → Some Cat ⊎ Some Alt
+  two_at k k' = go (get_or ns i Eps) refl
+    where
+      go : (x : Node) → get_or ns i Eps ≡ x → Some Cat ⊎ Some Alt
+      go Eps e = absurd (omega (arith, kind_at ns i Eps e))
+      go (Pos q) e = absurd (omega (arith, kind_at ns i (Pos q) e))
+      go (Cat left) e = inl (left, e)
+      go (Alt left) e = inr (left, e)
+      go (Branch mark) e = absurd (omega (arith, kind_at ns i (Branch mark) e))
+      go (Star mark) e = absurd (omega (arith, kind_at ns i (Star mark) e))
+      go (Plus mark) e = absurd (omega (arith, kind_at ns i (Plus mark) e))
+      go (Opt mark) e = absurd (omega (arith, kind_at ns i (Opt mark) e))
+
+  -- the kinds that some arm has together
+  pub star_plus_at : Some Star ⊎ Some Plus
+      → Sole (kinds_of ns) (args_of ns) i (kind_of (get_or ns i Eps)) (arg_of (get_or ns i Eps)) × ((kind_of (get_or ns i Eps) ≡ 5) ⊎ (kind_of (get_or ns i Eps) ≡ 6))
+  star_plus_at (inl e) = (one_at (omega arith) e.1, inl (ap kind_of e.1))
+  star_plus_at (inr e) = (one_at (omega arith) e.1, inr (ap kind_of e.1))
+
+  pub branch_opt_at : Some Branch ⊎ Some Opt
+      → Sole (kinds_of ns) (args_of ns) i (kind_of (get_or ns i Eps)) (arg_of (get_or ns i Eps)) × ((kind_of (get_or ns i Eps) ≡ 4) ⊎ (kind_of (get_or ns i Eps) ≡ 7))
+  branch_opt_at (inl e) = (one_at (omega arith) e.1, inl (ap kind_of e.1))
+  branch_opt_at (inr e) = (one_at (omega arith) e.1, inr (ap kind_of e.1))
+
+  -- and with their mark
+  module _ {mark : ℕ} where
+    pub star_opt_of : Here (Star mark) ⊎ Here (Opt mark) → Sole (kinds_of ns) (args_of ns) i (kind_of (get_or ns i Eps)) mark × ((kind_of (get_or ns i Eps) ≡ 5) ⊎ (kind_of (get_or ns i Eps) ≡ 7))
+    star_opt_of = sole_at (omega arith) (omega arith) refl refl
+
+    pub branch_plus_of : Here (Branch mark) ⊎ Here (Plus mark) → Sole (kinds_of ns) (args_of ns) i (kind_of (get_or ns i Eps)) mark × ((kind_of (get_or ns i Eps) ≡ 4) ⊎ (kind_of (get_or ns i Eps) ≡ 6))
+    branch_plus_of = sole_at (omega arith) (omega arith) refl refl
+
+    pub star_plus_of : Here (Star mark) ⊎ Here (Plus mark) → Sole (kinds_of ns) (args_of ns) i (kind_of (get_or ns i Eps)) mark × ((kind_of (get_or ns i Eps) ≡ 5) ⊎ (kind_of (get_or ns i Eps) ≡ 6))
+    star_plus_of = sole_at (omega arith) (omega arith) refl refl
+
+    pub branch_opt_of : Here (Branch mark) ⊎ Here (Opt mark) → Sole (kinds_of ns) (args_of ns) i (kind_of (get_or ns i Eps)) mark × ((kind_of (get_or ns i Eps) ≡ 4) ⊎ (kind_of (get_or ns i Eps) ≡ 7))
+    branch_opt_of = sole_at (omega arith) (omega arith) refl refl
 
 -- how many nodes, positions and marks a node has, from its parts
 pub record Sizes (e : Re) (n s h : ℕ) : Type 0 where
@@ -103,49 +218,35 @@ unfolding nodes
 leaf_nodes leaf_eps = refl
 leaf_nodes (leaf_pos h) = refl
 
--- a node with parts has a node before it
-pub above : {ks gs : List ℕ} {m p i : ℕ} {e : Re} → 2 ≤ get_or ks i 0 → Holds ks gs m p i e → 0 < i
-above k (h_eps n) = absurd (omega (arith, n.kind))
-above k (h_pos n a) = absurd (omega (arith, n.kind))
-above k (h_cat b x y) = omega (arith, b.left)
-above k (h_alt b x y) = omega (arith, b.left)
-above k (h_branch u x) = u.above
-above k (h_star u x) = u.above
-above k (h_plus u x) = u.above
-above k (h_opt u x) = u.above
-
 -- a position is among those that a set can have
 leaf_place : {p k a : ℕ} {e : Re} → Leaf p k a e → k ≡ 1 → p + size e ≤ limit → a < limit
 unfolding size
 leaf_place leaf_eps z l = absurd (omega arith)
 leaf_place (leaf_pos h) z l = omega arith
 
-pub held_place : {ks gs : List ℕ} {i : ℕ} → Held ks gs i → get_or ks i 0 ≡ 1 → get_or gs i 0 < limit
-held_place s z = leaf_place (leaf (omega arith) s.holds) z s.few
+pub held_place : {ks gs : List ℕ} {i q : ℕ} → Held ks gs i → Bare ks gs i 1 q → q < limit
+held_place s N = leaf_place (leaf N s.holds) refl s.few
 
 -- ---- the parts of a node are held, at smaller numbers
 
 module _ {ks gs : List ℕ} {i : ℕ} (s : Held ks gs i) where
-  pub held_above : 2 ≤ get_or ks i 0 → 0 < i
-  held_above k = above k s.holds
-
   abbrev Below : ℕ → Type 0
   Below j = (j < i) × Held ks gs j
 
-  pub held_part : 3 < get_or ks i 0 → Below (i - 1)
-  held_part k =
-      let v = single k s.holds in
+  pub held_part : {k arg : ℕ} → Sole ks gs i k arg → Below (i - 1)
+  held_part N =
+      let v = single N s.holds in
       (omega (arith, v.above), record { e = v.x; m = suc s.m; p = s.p; holds = v.part; within = omega (arith, s.within); few = omega (arith, s.few, (one_sizes v.is).size_is) })
 
-  module _ {l : ℕ} (k : 2 ≤ get_or ks i 0) (k' : get_or ks i 0 ≤ 3) (q : l ≡ get_or gs i 0) where
-    pub held_left : Below l
+  module _ {k arg : ℕ} (N : Pair ks gs i k arg) where
+    pub held_left : Below arg
     held_left =
-        let v = double k k' q s.holds in
+        let v = double N s.holds in
         (omega (arith, v.before), record { e = v.x; m = s.m; p = s.p; holds = v.left; within = omega (arith, s.within, v.before); few = omega (arith, s.few, (two_sizes v.is).size_is) })
 
     pub held_right : Below (i - 1)
     held_right =
-        let v = double k k' q s.holds in (
+        let v = double N s.holds in (
           omega (arith, v.before),
           record {
             e = v.y;

@@ -1,7 +1,7 @@
 -- Runs one after another: what they write and how they end. Assumes nothing.
 use mathlib.Core.Path.{◌≡◌, refl, ap, ◌∙◌, subst}
-use mathlib.Core.Bool.{Bool, true, false, ◌||◌, or-false}
-use mathlib.Core.List.{List, [], ◌∷◌}
+use mathlib.Core.Bool.{Bool, ◌||◌}
+use mathlib.Core.List.{List, []}
 use Prim.Native.Nat.{ℕ, ◌+◌}
 use native.Mathlib.Nat.{add-zero, add-suc, suc-add, add_assoc}
 use native.Mathlib.Numerals.{add-one}
@@ -50,26 +50,3 @@ wrote_then {t} {t₁} {t₂} {from} {s} {r} (run ρ pass w) (run σ o v) h f =
 wrote_then {t} {t₁} {t₂} {from} {s} {r} (run ρ (at q) w) S h f =
     let g : After (Stopped q (from + length ρ) w) t₁ t₂ r S = subst (λ (s : Step). After s t₁ t₂ r S) h.step f in
     record { row = g.0 ∙ h.row; step = g.1 }
-
--- ---- the same by the cases of a step
-
-pub noted_passed : {s : Step} {c : ℕ} {v w : Bool} (more : Bool) → s ≡ Passed c w → v ≡ (w || more) → Passed c v ≡ noted more s
-noted_passed more q e = rw (q, e)
-
-pub noted_stopped : {s : Step} {q c : ℕ} {v w : Bool} (more : Bool) → s ≡ Stopped q c w → v ≡ (w || more) → Stopped q c v ≡ noted more s
-noted_stopped more q e = rw (q, e)
-
-pub or_yes : {w : Bool} (v : Bool) → w ≡ true → w ≡ (w || v)
-or_yes v e = rw e
-
-pub or_no : {w : Bool} (v : Bool) → w ≡ false → v ≡ (w || v)
-or_no v e = rw e
-
-pub after_stopped : {s : Step} {q c : ℕ} {w : Bool} (t : List ℕ) (R : Run) → s ≡ Stopped q c w → After s t t (Stopped q c w) R
-after_stopped t R z = rw z (refl, refl)
-
-pub after_passed : {t t' : List ℕ} {s r : Step} {c : ℕ} {w : Bool} (R : Run) → s ≡ Passed c w → Wrote t t' c r (and_then (run [] pass w) R) → After s t t' r R
-after_passed R z h = rw z h
-
-pub wrote_token : {t t' : List ℕ} {c b v : ℕ} (w : Bool) → b ≡ c + 1 → t' ≡ set t c v → Wrote t t' c (Passed b w) (run (v ∷ []) pass (w || false))
-wrote_token {c = c} w q z = record { row = z; step = rw (q, or-false w) }

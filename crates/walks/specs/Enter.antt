@@ -1,5 +1,5 @@
 -- What the walk into a part asks and what it does. Assumes nothing: these are definitions.
-use Rattle.std.specs.Prelude.{◌≡◌, Bool, false, cond, not, ◌&&◌, ◌||◌, List, ℕ, ◌+◌, ◌*◌, ◌<◌, ◌^◌, eqb}
+use Rattle.std.specs.Prelude.{◌≡◌, Bool, false, cond, ◌&&◌, ◌||◌, List, ℕ, ◌+◌, ◌*◌, ◌<◌, ◌^◌}
 use Rattle.meaning.specs.Expression.{Re, marks}
 use Rattle.grammar.specs.Holds.{Holds}
 use Rattle.positions.specs.Tests.{leads}
@@ -7,12 +7,12 @@ use Rattle.positions.specs.Runs.{Run, also, put, through, enter_run}
 use Rattle.sets.specs.declared.set.Set.{Set}
 use Rattle.sets.specs.Members.{has, row, rows}
 use Rattle.walks.specs.declared.step.Step.{Step}
-use Rattle.walks.specs.Tables.{Known, number, NullAt, FirstAt}
+use Rattle.walks.specs.Tables.{Known, answer, NullAt, FirstAt}
 use Rattle.walks.specs.Steps.{Wrote, After}
 
--- l: the node leads to the goal; n: 0 unless it may be passed
-unfoldable pub open_to : Bool → ℕ → Bool → Bool
-open_to l n pass = l || (not (eqb n 0) && pass)
+-- l: the node leads to the goal; n: it may be passed
+unfoldable pub open_to : Bool → Bool → Bool → Bool
+open_to l n pass = l || (n && pass)
 
 -- node i holds an expression whose marks fit a token, and there is room to count what is written of it from `from` on
 pub record Ready (ks gs : List ℕ) (i from : ℕ) : Type 0 where
@@ -25,8 +25,8 @@ pub record Ready (ks gs : List ℕ) (i from : ℕ) : Type 0 where
   pub room : from + 2 * marks e < 2 ^ 64
 
 -- both tables are right at the nodes up to i
-pub record Scanned (ks gs ns fs : List ℕ) (i : ℕ) : Type 0 where
-  pub null : Known number (NullAt ks gs) ns i
+pub record Scanned (ks gs : List ℕ) (ns : List Bool) (fs : List Set) (i : ℕ) : Type 0 where
+  pub null : Known answer (NullAt ks gs) ns i
   pub first : Known row (FirstAt ks gs) fs i
   pub long : rows fs ≡ 1024
 

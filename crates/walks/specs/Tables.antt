@@ -1,5 +1,5 @@
 -- Tables of the nodes of a read pattern. Assumes nothing: these are definitions.
-use Rattle.std.specs.Prelude.{◌≡◌, Bool, cond, ◌&&◌, ◌||◌, List, ℕ, suc, ◌+◌, ◌-◌, ◌<◌, ◌≤◌, eqb, get_or}
+use Rattle.std.specs.Prelude.{◌≡◌, Bool, false, cond, ◌&&◌, ◌||◌, List, ℕ, suc, ◌+◌, ◌-◌, ◌<◌, ◌≤◌, eqb, get_or}
 use Rattle.meaning.specs.Expression.{Re, size}
 use Rattle.meaning.specs.ReadPattern.{nodes}
 use Rattle.grammar.specs.Holds.{Holds}
@@ -18,7 +18,7 @@ pub record Held (ks gs : List ℕ) (i : ℕ) : Type 0 where
   pub few : p + size e ≤ limit
 
 -- t' is t but for the entries from lo up to hi, hi not included, of which each is right
-pub record Filled {A : Type 0} (count : List ℕ → ℕ) (entry : List ℕ → ℕ → A) (Right : ℕ → A → Type 0) (lo hi : ℕ) (t t' : List ℕ) : Type 0 where
+pub record Filled {T A : Type 0} (count : T → ℕ) (entry : T → ℕ → A) (Right : ℕ → A → Type 0) (lo hi : ℕ) (t t' : T) : Type 0 where
   pub same_count : count t' ≡ count t
   pub right : (j : ℕ) → lo ≤ j → j < hi → Right j (entry t' j)
   pub other : (j : ℕ) → (lo ≤ j → j < hi → ⊥) → entry t' j ≡ entry t j
@@ -28,31 +28,34 @@ abbrev pub first_node : ℕ → Re → ℕ
 first_node i e = suc i - nodes e
 
 -- a walk of the part at node i has filled the entries of its nodes
-abbrev pub Walked : {A : Type 0} → (List ℕ → ℕ) → (List ℕ → ℕ → A) → (ℕ → A → Type 0) → List ℕ → List ℕ → ℕ → List ℕ → List ℕ → Type 0
+abbrev pub Walked : {T A : Type 0} → (T → ℕ) → (T → ℕ → A) → (ℕ → A → Type 0) → List ℕ → List ℕ → ℕ → T → T → Type 0
 Walked count entry Right ks gs i t t' = (e : Re) (m p : ℕ) → Holds ks gs m p i e → Filled count entry Right (first_node i e) (suc i) t t'
 
 abbrev pub number : List ℕ → ℕ → ℕ
 number t j = get_or t j 0
 
+abbrev pub answer : List Bool → ℕ → Bool
+answer t j = get_or t j false
+
 abbrev pub flag : Bool → ℕ
 flag b = cond b 1 0
 
 -- v says whether node i may be passed over no text, whatever it holds
-abbrev pub NullAt : List ℕ → List ℕ → ℕ → ℕ → Type 0
-NullAt ks gs i v = (e : Re) (m p : ℕ) → Holds ks gs m p i e → v ≡ flag (nullable e)
+abbrev pub NullAt : List ℕ → List ℕ → ℕ → Bool → Type 0
+NullAt ks gs i v = (e : Re) (m p : ℕ) → Holds ks gs m p i e → v ≡ nullable e
 
 -- the same by the kind of a node, from what is said of its parts
-unfoldable pub leaf_null : ℕ → ℕ
-leaf_null k = flag (eqb k 0)
+unfoldable pub leaf_null : ℕ → Bool
+leaf_null k = eqb k 0
 
-unfoldable pub one_null : ℕ → ℕ → ℕ
-one_null k x = cond (eqb k 5 || eqb k 7) 1 x
+unfoldable pub one_null : ℕ → Bool → Bool
+one_null k x = (eqb k 5 || eqb k 7) || x
 
-unfoldable pub two_null : ℕ → ℕ → ℕ → ℕ
-two_null k x y = cond (eqb k 2) (cond (eqb x 0) 0 y) (cond (eqb x 0) y 1)
+unfoldable pub two_null : ℕ → Bool → Bool → Bool
+two_null k x y = cond (eqb k 2) (x && y) (x || y)
 
 -- a table is right at the nodes up to i
-abbrev pub Known : {A : Type 0} → (List ℕ → ℕ → A) → (ℕ → A → Type 0) → List ℕ → ℕ → Type 0
+abbrev pub Known : {T A : Type 0} → (T → ℕ → A) → (ℕ → A → Type 0) → T → ℕ → Type 0
 Known entry Right t i = (j : ℕ) → j ≤ i → Right j (entry t j)
 
 -- s has the positions that node i may begin with, whatever it holds
@@ -62,8 +65,8 @@ pub record FirstAt (ks gs : List ℕ) (i : ℕ) (s : Set) : Type 0 where
 unfoldable pub leaf_first : ℕ → ℕ → ℕ → Bool
 leaf_first k p q = eqb k 1 && eqb q p
 
-unfoldable pub two_first : ℕ → ℕ → Bool → Bool → Bool
-two_first k n a b = cond (eqb k 3) (a || b) (cond (eqb n 0) a (a || b))
+unfoldable pub two_first : ℕ → Bool → Bool → Bool → Bool
+two_first k n a b = cond (eqb k 3) (a || b) (cond n (a || b) a)
 
 -- one past the last position of e, 0 where it has none
 unfoldable pub end_of : ℕ → Re → ℕ

@@ -1,84 +1,67 @@
 // Which positions may follow a position, and which may be the last.
-ghost use Rattle.std.specs.Prelude.{◌≡◌, ℕ, ◌<◌, get_or};
+ghost use Rattle.std.specs.Prelude.{◌≡◌, ◌&&◌, ◌||◌, false, ℕ, ◌<◌, get_or};
+ghost use Rattle.kinds.specs.Nodes.{kinds_of, args_of};
 ghost use Rattle.sets.specs.Members.{has, limit, rows, row};
 ghost use Rattle.walks.specs.Tables.{Held};
 ghost use Rattle.walks.specs.Enter.{Scanned};
-ghost use Rattle.walks.specs.Follow.{next_of, last_of, FollowsAt};
+ghost use Rattle.walks.specs.Follow.{FollowsAt};
 
-use crate::look::turns_again;
-use crate::node::wide;
+use crate::tables::Openings;
+use kinds::{Node, ReadPattern};
 use sets::set::Set;
 
-// What may come after the left part of a node of kind k, or after its only part, where `after` may come after the node: in a cat the
-// right part, which is node j, and what comes after if j may be passed; in a star and a plus also another turn over node j.
-fn beyond(k: u8, null: &[u8; 1024], first: &[u64; 1024], j: usize, after: Set) -> Set
-    requires { (j < rows first.now) × (j < 1024) }
-    ensures { (q : ℕ) → has result q ≡ next_of k (has (row first.now j) q) (get_or null.now j 0) (has after q) }
+// What may come where node j is next and then what `after` has: a first position of node j, and what comes after it if j may be passed.
+fn coming(opens: &Openings, j: usize, after: Set) -> Set
+    requires { (j < rows opens.now.first) × (j < 1024) }
+    ensures { (q : ℕ) → has result q ≡ (has (row opens.now.first j) q || (get_or opens.now.null j false && has after q)) }
 {
-    let opens = Set::load(first, j);
-    if k == kinds::CAT {
-        if null[j] == 0 {
-            return opens;
-        }
-        return opens.union(after);
+    let firsts = opens.first[j];
+    if opens.null[j] {
+        firsts.union(after)
+    } else {
+        firsts
     }
-    if turns_again(k) {
-        let turns = opens.union(after);
-        return turns;
-    }
-    after
-}
-
-// May the end come after the left part of a node of kind k, where `end` says so of the node? In a cat only if n, of the right part, is
-// not 0.
-fn ended(k: u8, n: u8, end: bool) -> bool
-    ensures { result ≡ last_of k n end }
-{
-    if k == kinds::ALT {
-        return end;
-    }
-    if n == 0 {
-        return false;
-    }
-    end
 }
 
 // Fills `follow` at the positions of node i with the positions that may follow each, where `after` may come after the node and, if
 // `end`, the end of the text; hands back `ends` with the positions of node i that may be the last.
-pub fn may_follow<'a>(
-    kind: &'a [u8; 1024],
-    arg: &'a [u16; 1024],
-    null: &'a [u8; 1024],
-    first: &'a [u64; 1024],
-    follow: &mut [u64; 64],
+pub fn may_follow(
+    pattern: &ReadPattern,
+    opens: &Openings,
+    follow: &mut [Set; 64],
     i: usize,
     after: Set,
     end: bool,
     ends: Set,
 ) -> Set
-    requires held { Held kind.now arg.now i }
-    requires scanned { Scanned kind.now arg.now null.now first.now i }
-    requires sized { rows follow.old ≡ limit }
-    ensures { FollowsAt kind.now arg.now i after end follow.old follow.new ends result }
+    requires held { Held (kinds_of pattern.now.node) (args_of pattern.now.node) i }
+    requires scanned { Scanned (kinds_of pattern.now.node) (args_of pattern.now.node) opens.now.null opens.now.first i }
+    ensures long { rows follow.new ≡ limit }
+    ensures follows { FollowsAt (kinds_of pattern.now.node) (args_of pattern.now.node) i after end follow.old follow.new ends result }
 {
-    let k = kind[i];
-    let a = wide(arg[i]);
-    if k < kinds::CAT {
-        if k == kinds::EPS {
-            return ends;
+    match pattern.node[i] {
+        Node::Eps => ends,
+        Node::Pos(q) => {
+            follow[q as usize] = after;
+            if end { ends.with(q as usize) } else { ends }
         }
-        after.store(follow, a);
-        if end {
-            return ends.with(a);
+        Node::Cat(left) => {
+            let right = i - 1;
+            let next = coming(opens, right, after);
+            let last = opens.null[right] && end;
+            let seen = may_follow(pattern, opens, follow, left as usize, next, last, ends);
+            may_follow(pattern, opens, follow, right, after, end, seen)
         }
-        return ends;
+        Node::Alt(left) => {
+            let seen = may_follow(pattern, opens, follow, left as usize, after, end, ends);
+            may_follow(pattern, opens, follow, i - 1, after, end, seen)
+        }
+        Node::Star(_) | Node::Plus(_) => {
+            let next = opens.first[i - 1].union(after);
+            may_follow(pattern, opens, follow, i - 1, next, end, ends)
+        }
+        Node::Branch(_) | Node::Opt(_) => {
+            may_follow(pattern, opens, follow, i - 1, after, end, ends)
+        }
     }
-    let right = i - 1;
-    let next = beyond(k, null, first, right, after);
-    if k > kinds::ALT {
-        return may_follow(kind, arg, null, first, follow, right, next, end, ends);
-    }
-    let last = ended(k, null[right], end);
-    let seen = may_follow(kind, arg, null, first, follow, a, next, last, ends);
-    may_follow(kind, arg, null, first, follow, right, after, end, seen)
 }

@@ -5,7 +5,6 @@ pub mod enter;
 pub mod first;
 pub mod follow;
 pub mod look;
-pub mod node;
 pub mod null;
 pub mod resume;
 pub mod step;

@@ -1,67 +1,49 @@
 // Which nodes may be passed over no text.
 ghost use Rattle.std.specs.Prelude.{◌≡◌, length};
-ghost use Rattle.walks.specs.Tables.{Held, Walked, number, NullAt, leaf_null, one_null, two_null};
+ghost use Rattle.kinds.specs.Nodes.{kind_of, kinds_of, args_of};
+ghost use Rattle.walks.specs.Tables.{Held, Walked, answer, NullAt, one_null, two_null};
 
-use crate::node::wide;
+use kinds::{Node, ReadPattern};
 
-// Of a node without parts: `()` may, a position may not.
-fn null_leaf(k: u8) -> u8
-    ensures { result ≡ leaf_null k }
+// Of a node with one part: a star and an opt may, the others as the part.
+#[tactic(auto, unfolding(crate::specs::Tables::one_null))]
+fn null_one(node: Node, part: bool) -> bool
+    ensures { result ≡ one_null (kind_of node) part }
 {
-    if k == kinds::EPS {
-        return 1;
-    }
-    0
+    matches!(node, Node::Star(_) | Node::Opt(_)) || part
 }
 
-// Of a node of kind k with one part: a star and an opt may, the others as the part.
-fn null_one(k: u8, part: u8) -> u8
-    ensures { result ≡ one_null k part }
+// Of a node with two parts: a cat as both, an alt as either.
+#[tactic(auto, unfolding(crate::specs::Tables::two_null))]
+fn null_two(node: Node, left: bool, right: bool) -> bool
+    ensures { result ≡ two_null (kind_of node) left right }
 {
-    if k == kinds::STAR {
-        return 1;
+    match node {
+        Node::Cat(_) => left && right,
+        _ => left || right,
     }
-    if k == kinds::OPT {
-        return 1;
-    }
-    part
 }
 
-// Of a node of kind k with two parts: a cat as both, an alt as either.
-fn null_two(k: u8, left: u8, right: u8) -> u8
-    ensures { result ≡ two_null k left right }
+// Fills `null` for the nodes of the part at node i: whether a node may be passed over no text.
+pub fn may_be_empty(pattern: &ReadPattern, null: &mut [bool; 1024], i: usize)
+    requires held { Held (kinds_of pattern.now.node) (args_of pattern.now.node) i }
+    ensures { Walked length answer (NullAt (kinds_of pattern.now.node) (args_of pattern.now.node))
+        (kinds_of pattern.now.node) (args_of pattern.now.node) i null.old null.new }
 {
-    if k == kinds::CAT {
-        if left == 0 {
-            return 0;
+    match pattern.node[i] {
+        Node::Eps => null[i] = true,
+        Node::Pos(_) => null[i] = false,
+        Node::Cat(left) | Node::Alt(left) => {
+            let left = left as usize;
+            let right = i - 1;
+            may_be_empty(pattern, null, left);
+            may_be_empty(pattern, null, right);
+            null[i] = null_two(pattern.node[i], null[left], null[right]);
         }
-        return right;
+        Node::Branch(_) | Node::Star(_) | Node::Plus(_) | Node::Opt(_) => {
+            let part = i - 1;
+            may_be_empty(pattern, null, part);
+            null[i] = null_one(pattern.node[i], null[part]);
+        }
     }
-    if left == 0 {
-        return right;
-    }
-    1
-}
-
-// Fills `null` for the nodes of the part at node i: 1 where a node may be passed over no text, else 0.
-pub fn may_be_empty<'a>(kind: &'a [u8; 1024], arg: &'a [u16; 1024], null: &mut [u8; 1024], i: usize)
-    requires held { Held kind.now arg.now i }
-    requires sized { length null.old ≡ 1024 }
-    ensures { Walked length number (NullAt kind.now arg.now) kind.now arg.now i null.old null.new }
-{
-    let k = kind[i];
-    if k < kinds::CAT {
-        null[i] = null_leaf(k);
-        return;
-    }
-    let right = i - 1;
-    if k > kinds::ALT {
-        may_be_empty(kind, arg, null, right);
-        null[i] = null_one(k, null[right]);
-        return;
-    }
-    let left = wide(arg[i]);
-    may_be_empty(kind, arg, null, left);
-    may_be_empty(kind, arg, null, right);
-    null[i] = null_two(k, null[left], null[right]);
 }

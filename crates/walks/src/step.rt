@@ -16,30 +16,31 @@ pub fn put(tree: &mut [u16], at: usize, token: u16) -> usize
     requires { at + 1 < 2 ^ 64 }
     ensures { (result ≡ at + 1) × (tree.new ≡ set tree.old at token) }
 {
-    let next = at + 1;
     if at < tree.len() {
         tree[at] = token;
     }
-    next
+    at + 1
 }
 
-// The step, with another way if `more`.
-pub fn also(s: Step, more: bool) -> Step
-    ensures { result ≡ noted more s }
-{
-    match s {
-        Step::Passed(at, other) => Step::Passed(at, other || more),
-        Step::Stopped(q, at, other) => Step::Stopped(q, at, other || more),
+impl Step {
+    // The step, with another way if `more`.
+    pub fn also(self, more: bool) -> Step
+        ensures { result ≡ noted more self }
+    {
+        match self {
+            Step::Passed(at, other) => Step::Passed(at, other || more),
+            Step::Stopped(q, at, other) => Step::Stopped(q, at, other || more),
+        }
     }
-}
 
-// Writes the close of a mark where the step passed.
-pub fn close(tree: &mut [u16], s: Step, mark: u16) -> Step
-    requires { (cursor s + 1 < 2 ^ 64) × (mark < 128) }
-    ensures { After s tree.old tree.new result (run ((128 + mark) ∷ []) pass false) }
-{
-    match s {
-        Step::Passed(at, other) => Step::Passed(put(tree, at, 128 + mark), other),
-        Step::Stopped(q, at, other) => Step::Stopped(q, at, other),
+    // Writes the close of a mark where the step passed.
+    pub fn close(self, tree: &mut [u16], mark: u16) -> Step
+        requires { (cursor self + 1 < 2 ^ 64) × (mark < 128) }
+        ensures { After self tree.old tree.new result (run ((128 + mark) ∷ []) pass false) }
+    {
+        match self {
+            Step::Passed(at, other) => Step::Passed(put(tree, at, 128 + mark), other),
+            Step::Stopped(..) => self,
+        }
     }
 }

@@ -1,31 +1,58 @@
-// All the tables of a read pattern.
+// The tables of a read pattern.
 ghost use Rattle.std.specs.Prelude.{◌≡◌, length};
+ghost use Rattle.kinds.specs.Nodes.{kinds_of, args_of};
 ghost use Rattle.sets.specs.Members.{limit, rows};
 ghost use Rattle.walks.specs.Root.{Root, Tabled, Spared};
 
 use crate::first::opens_first;
 use crate::follow::may_follow;
 use crate::null::may_be_empty;
+use kinds::ReadPattern;
 use sets::set::Set;
 
-// Fills the tables of the read pattern whose last node is `root`, and hands back the positions that may be the last.
-pub fn tables<'a>(
-    kind: &'a [u8; 1024],
-    arg: &'a [u16; 1024],
-    null: &mut [u8; 1024],
-    first: &mut [u64; 1024],
-    upto: &mut [u16; 1024],
-    follow: &mut [u64; 64],
-    root: usize,
-) -> Set
-    requires root { Root kind.now arg.now root }
-    requires sized { (length null.old ≡ 1024) × ((rows first.old ≡ 1024) × ((length upto.old ≡ 1024) × (rows follow.old ≡ limit))) }
-    ensures tabled { Tabled kind.now arg.now null.new first.new upto.new follow.new root result }
-    ensures spared { Spared kind.now arg.now root
-        null.old null.new first.old first.new upto.old upto.new follow.old follow.new }
-{
-    may_be_empty(kind, arg, null, root);
-    opens_first(kind, arg, null, first, upto, root);
-    let none = Set::empty();
-    may_follow(kind, arg, null, first, follow, root, none, true, none)
+// What the tables say of each node: `null`, whether it may be passed over no text; `first`, with which positions it may begin; `upto`, one
+// past the last of its positions, 0 where it has none.
+#[derive(Clone, Copy)]
+pub struct Openings {
+    pub null: [bool; 1024],
+    pub first: [Set; 1024],
+    pub upto: [u16; 1024],
+}
+
+// And which positions may follow each position.
+#[derive(Clone, Copy)]
+pub struct Tables {
+    pub nodes: Openings,
+    pub follow: [Set; 64],
+}
+
+impl Tables {
+    // Fills the tables of the read pattern whose last node is `root`, and hands back the positions that may be the last.
+    pub fn fill(&mut self, pattern: &ReadPattern, root: usize) -> Set
+        requires root { Root (kinds_of pattern.now.node) (args_of pattern.now.node) root }
+        ensures tabled { Tabled (kinds_of pattern.now.node) (args_of pattern.now.node)
+            self.new.nodes.null self.new.nodes.first self.new.nodes.upto self.new.follow root result }
+        ensures spared { Spared (kinds_of pattern.now.node) (args_of pattern.now.node) root
+            self.old.nodes.null self.new.nodes.null self.old.nodes.first self.new.nodes.first
+            self.old.nodes.upto self.new.nodes.upto self.old.follow self.new.follow }
+    {
+        may_be_empty(pattern, &mut self.nodes.null, root);
+        opens_first(
+            pattern,
+            &self.nodes.null,
+            &mut self.nodes.first,
+            &mut self.nodes.upto,
+            root,
+        );
+        let none = Set::empty();
+        may_follow(
+            pattern,
+            &self.nodes,
+            &mut self.follow,
+            root,
+            none,
+            true,
+            none,
+        )
+    }
 }

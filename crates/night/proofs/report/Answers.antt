@@ -1,41 +1,43 @@
 -- `night::report` meets its contract. Assumes nothing.
-use Rattle.std.proofs.Common.{◌≡◌, ◌≤◌, arith, length}
+use Rattle.std.proofs.Common.{◌≤◌, arith, length, refl}
+use Rattle.std.proofs.lemmas.Result.{err_from_is_err_and}
+use Rattle.meaning.specs.Expression.{Re}
 use Rattle.meaning.specs.Limits.{text_limit}
-use Rattle.tree.specs.Outcome.{number_of}
-use Rattle.tree.proofs.Answers.{told_judged}
-use Rattle.night.proofs.Reporting.{past_night, reported_long, reported_none, front_held, reported_row}
+use Rattle.meaning.specs.Promise.{Judged}
+use Rattle.tree.specs.Judge.{Prepared}
+use Rattle.tree.specs.Outcome.{number_of, value_of, flag_of}
+use Rattle.tree.proofs.Answers.{told_judged, refusal_some}
+use Rattle.night.proofs.Reporting.{past_night, reported_none, front_held, reported_row}
 use Rattle.night.proofs.report.Goals as goal
-use Rattle.night.proofs.report.Goals.{After-told-answer, Else-n-ne0}
+use Rattle.night.proofs.report.Goals.{After-told}
 
 -- the report is looked at
-short : (c : After-told-answer) → length c.args.text.now ≤ text_limit
+short : (c : After-told) → length c.args.text.now ≤ text_limit
 short c = omega arith
 
--- the answer is 0
-zero : (c : Else-n-ne0) → number_of c.told-answer.result ≡ 0
-zero c = omega (arith, c.number-n.ensures)
+-- and judged
+answered : (c : After-told) (e : Re) → Prepared e c.args.pattern.now c.args.reader.now
+    → Judged e c.args.text.now c.args.tree.now (number_of c.told.result) (value_of c.told.result) (flag_of c.told.result) c.seek.new.tree
+answered c e p = told_judged c.seek.result c.told.ensures (c.seek.ensures.seeks e p).sought
 
-pub returns-then-text-gt-TEXT_LIMIT-clause-reported : goal.returns-then-text-gt-TEXT_LIMIT-clause-reported
-returns-then-text-gt-TEXT_LIMIT-clause-reported c e p = reported_long p.rooted.few_marks (omega arith)
-
-pub returns-then-n-ne0-clause-reported : goal.returns-then-n-ne0-clause-reported
-returns-then-n-ne0-clause-reported c e p =
-    let few = short (goal.at.returns-then-n-ne0-clause-reported c).After-told-answer in
-    let s = c.seek-found.ensures.seeks e p in
-    let j = told_judged c.seek-found.result.outcome c.told-answer.ensures s.sought in
-    reported_none p.rooted.few_marks few j c.number-n.ensures c.if-n-ne0.true (past_night s few) s.same_cells
+pub returns-in_err-found-clause-reported : goal.returns-in_err-found-clause-reported
+returns-in_err-found-clause-reported c e p =
+    let told = (goal.at.returns-in_err-found-clause-reported c).After-told in
+    let s = c.seek.ensures.seeks e p in
+    let a = rw c.in_err-found.was at (answered told e p) in
+    let k = err_from_is_err_and c.from_residual.result c.from_residual.ensures.1 in
+    rw (k.1, k.2) (reported_none p.rooted.few_marks (short told) a (refusal_some c.in_err-found.field-0.0) (past_night s (short told)) s.same_cells)
 
 pub tally-requires : goal.tally-requires
 tally-requires c =
-    let place = goal.at.tally-requires c in
+    let told = (goal.at.tally-requires c).After-told in
     let p = c.requires.prepares.prepared in
-    let j = told_judged c.seek-found.result.outcome c.told-answer.ensures (c.seek-found.ensures.seeks _ p).sought in
-    rw c.value.ensures (front_held p.rooted.few_marks (short place.After-told-answer) j (zero place.Else-n-ne0) c.requires.spacious)
+    let a = rw c.in_ok-found.was at (answered told _ p) in
+    front_held p.rooted.few_marks (short told) a refl c.requires.spacious
 
 pub returns-clause-reported : goal.returns-clause-reported
 returns-clause-reported c e p =
-    let place = goal.at.returns-clause-reported c in
-    let few = short place.After-told-answer in
-    let s = c.seek-found.ensures.seeks e p in
-    let j = told_judged c.seek-found.result.outcome c.told-answer.ensures s.sought in
-    reported_row p.rooted.few_marks few j (zero place.Else-n-ne0) (past_night s few) s.same_cells (rw c.value.ensures at c.tally.ensures)
+    let told = (goal.at.returns-clause-reported c).After-told in
+    let s = c.seek.ensures.seeks e p in
+    let a = rw c.in_ok-found.was at (answered told e p) in
+    reported_row p.rooted.few_marks (short told) a refl (past_night s (short told)) s.same_cells c.tally.ensures

@@ -1,15 +1,19 @@
 -- `rows::line_in` meets its contract. Assumes nothing.
-use Rattle.lines.proofs.PartsLaws.{headed_long}
-use Rattle.rows.proofs.FrontLaws.{from_on}
+use mathlib.Core.Path.{◌≡◌}
+use lib.ListN.{drop}
+use borrow.Author.Rules.{rules}
+use Rattle.lines.specs.Parts.{Headed}
 use Rattle.rows.proofs.RowLaws.{word_tree, line_headed, found_line}
 use Rattle.rows.proofs.line_in.Goals as goal
 
-pub slice_bounds-tokens_in-count : goal.slice_bounds-tokens_in-count
-slice_bounds-tokens_in-count c = headed_long c.args.line.now word_tree (rw c.if-is_word.true at c.is_word.ensures)
-
-pub returns-then-is_word : goal.returns-then-is_word
-returns-then-is_word c = let line = c.args.line.now in
-    found_line line (rw c.if-is_word.true at c.is_word.ensures) _ c.tokens_in.result _ (rw (from_on line 4) at c.tokens_in.ensures)
+pub returns-in_err-strip_prefix : goal.returns-in_err-strip_prefix
+returns-in_err-strip_prefix c =
+    let none : Headed c.args.line.now word_tree → ⊥ = search rules in
+    rw c.from_residual.ensures (λ row l. none (line_headed l))
 
 pub returns : goal.returns
-returns c row l = (rw c.if-is_word.false at c.is_word.ensures) (line_headed l)
+returns c =
+    let line = c.args.line.now in
+    let headed : Headed line word_tree = search rules in
+    let rest : c.in_ok-strip_prefix.field-0.now ≡ drop 4 line = search rules in
+    found_line line headed _ c.tokens_in.result _ (rw rest at c.tokens_in.ensures)

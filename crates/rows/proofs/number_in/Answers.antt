@@ -1,29 +1,21 @@
 -- `rows::number_in` meets its contract. Assumes nothing.
-use native.Mathlib.Omega.{arith}
 use borrow.Author.Rules.{rules}
-use Rattle.rows.proofs.NumberLaws.{sofar_none, sofar_low, sofar_high, sofar_big, sofar_end, sofar_more}
+use Rattle.rows.proofs.NumberLaws.{sofar_none, sofar_other, sofar_big, sofar_end, sofar_more}
 use Rattle.rows.proofs.number_in.Goals as goal
+use Rattle.rows.proofs.number_in.Goals.{then-not-is_ascii_digit-via-then-not-is_ascii_digit, then-not-is_ascii_digit-via-else-not-is_ascii_digit+then-v-gt65535}
 
-pub loop-i-init : goal.loop-i-init
-loop-i-init c = sofar_none _
+pub loop-b-init : goal.loop-b-init
+loop-b-init c = sofar_none _
 
-pub overflow_cast-b : goal.overflow_cast-b
-overflow_cast-b c = omega (arith, c.shared_slice_known-1.given c.loop-i.i)
+pub returns-then-not-is_ascii_digit : goal.returns-then-not-is_ascii_digit
+returns-then-not-is_ascii_digit c = let sofar = c.loop-b.invariant in
+    elim c.then-not-is_ascii_digit.branch [
+      | then-not-is_ascii_digit-via-then-not-is_ascii_digit w ↦ sofar_other _ _ _ sofar (search rules) w.if-not-is_ascii_digit.ensures.cases
+      | then-not-is_ascii_digit-via-else-not-is_ascii_digit+then-v-gt65535 w ↦ sofar_big _ _ _ sofar w.if-v-gt65535.true
+    ]
 
-pub returns-then-b-lt48 : goal.returns-then-b-lt48
-returns-then-b-lt48 c = sofar_low _ _ _ c.loop-i.invariant (search rules) c.if-b-lt48.true
+pub loop-b-preserved : goal.loop-b-preserved
+loop-b-preserved c = sofar_more _ _ _ c.loop-b.invariant (search rules) (search rules) (search rules) (search rules)
 
-pub returns-then-b-gt57 : goal.returns-then-b-gt57
-returns-then-b-gt57 c = sofar_high _ _ _ c.loop-i.invariant (search rules) c.if-b-gt57.true
-
-pub returns-then-v-gt65535 : goal.returns-then-v-gt65535
-returns-then-v-gt65535 c = sofar_big _ _ _ c.loop-i.invariant c.if-v-gt65535.true
-
-pub overflow_add-v : goal.overflow_add-v
-overflow_add-v c = omega (arith, c.shared_slice_known-1.given c.loop-i.i)
-
-pub loop-i-preserved : goal.loop-i-preserved
-loop-i-preserved c = sofar_more _ _ _ c.loop-i.invariant (search rules) (search rules) (search rules) (search rules)
-
-pub returns : goal.returns
-returns c = sofar_end _ _ _ c.loop-i.invariant (search rules)
+pub returns-after-loop-b : goal.returns-after-loop-b
+returns-after-loop-b c = sofar_end _ _ _ c.loop-b.invariant (search rules)

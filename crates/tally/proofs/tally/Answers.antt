@@ -1,36 +1,21 @@
 -- `tally::tally` meets its contract. Assumes nothing.
-use mathlib.Core.Path.{◌≡◌, refl}
+use mathlib.Core.Path.{refl}
 use native.Mathlib.Omega.{arith}
 use borrow.Author.Rules.{rules}
 use Rattle.tally.proofs.Steps.{behind_end}
 use Rattle.tally.proofs.tally.Goals as goal
 
-pub loop-at-init : goal.loop-at-init
-loop-at-init c = (omega arith, refl, behind_end c.args.row.now _ _ refl)
+pub loop-place-init : goal.loop-place-init
+loop-place-init c = (omega arith, refl, search rules, behind_end c.args.row.now _ _ refl)
 
-pub step-next-requires : goal.step-next-requires
-step-next-requires c =
-    let l = c.loop-at in
+pub step-place-requires-clause-underway : goal.step-place-requires-clause-underway
+step-place-requires-clause-underway c =
+    let l = c.loop-place in
     record {
-      underway =
-          record {
-            f₀ = _;
-            holds = c.requires;
-            inside = l.invariant.0;
-            behind = l.invariant.2;
-            wide_closed = omega arith;
-            wide_turns = omega arith;
-            wide_bytes = omega arith;
-            wide_longest = omega arith;
-          };
-      not_first = omega arith;
+      f₀ = _;
+      holds = c.requires;
+      inside = l.invariant.0;
+      behind = l.invariant.3;
+      wide_closed = omega arith;
+      wide_figures = omega arith;
     }
-
-pub loop-at-smaller : goal.loop-at-smaller
-loop-at-smaller c = c.step-next.ensures.nearer
-
-pub loop-at-preserved : goal.loop-at-preserved
-loop-at-preserved c = (omega (arith, c.step-next.ensures.nearer), search rules, c.step-next.ensures.on _ c.loop-at.invariant.2)
-
-pub returns : goal.returns
-returns c = let e : c.loop-at.at ≡ 0 = omega arith in rw e at c.loop-at.invariant.2.so_far

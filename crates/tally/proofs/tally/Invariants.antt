@@ -1,12 +1,13 @@
--- `tally::tally`, the loop's invariant: the tokens from `at` on are counted. Assumes nothing.
+-- `tally::tally`, the loop's invariant: the tokens from the place on are counted. Assumes nothing.
 use mathlib.Core.Path.{◌≡◌}
 use Prim.Native.Nat.{◌≤◌}
 use lib.ListN.{length, drop}
-use Rattle.tally.specs.Along.{counts, Behind}
+use Rattle.tally.specs.Along.{Behind}
 use Rattle.tally.proofs.tally.Given as goal
 
-abbrev pub invariant-loop-at : goal.invariant-loop-at
-invariant-loop-at l = (l.at ≤ length l.row) × (length l.closed ≡ 64) × Behind (drop l.at l.row) l.seen l.closed (counts l.initial.turns l.initial.bytes l.initial.longest) (counts l.turns l.bytes l.longest)
+abbrev pub invariant-loop-place : goal.invariant-loop-place
+invariant-loop-place l =
+    (l.place.at ≤ length l.row) × (length l.closed ≡ 64) × (length l.figures ≡ 64) × Behind (drop l.place.at l.row) l.place.seen l.closed l.initial.figures l.figures
 
-abbrev pub decreases-loop-at : goal.decreases-loop-at
-decreases-loop-at l = l.at
+abbrev pub decreases-loop-place : goal.decreases-loop-place
+decreases-loop-place l = l.place.at

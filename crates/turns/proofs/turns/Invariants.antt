@@ -1,11 +1,6 @@
--- `turns::turns`, the loop's invariant: the tokens from i on stand behind. Assumes nothing.
-use Prim.Native.Nat.{◌≤◌}
-use lib.ListN.{length, drop}
-use Rattle.turns.specs.Behind.{Stands}
+-- `turns::turns`, the loop's invariant: what is left, and what stands behind it. Assumes nothing.
+use Rattle.turns.proofs.Counts.{Left}
 use Rattle.turns.proofs.turns.Given as goal
 
-abbrev pub invariant-loop-i : goal.invariant-loop-i
-invariant-loop-i l = (l.i ≤ length l.row) × Stands l.mark (drop l.i l.row) l.behind
-
-abbrev pub decreases-loop-i : goal.decreases-loop-i
-decreases-loop-i l = l.i
+abbrev pub invariant-loop-token : goal.invariant-loop-token
+invariant-loop-token l = Left l.mark l.row l.token-iterator.iter.rest.now l.behind

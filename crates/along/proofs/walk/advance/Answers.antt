@@ -1,23 +1,35 @@
 -- `along::walk::advance` meets its contract. Assumes nothing.
-use Prim.Native.Nat.{◌+◌}
+use mathlib.Core.Path.{◌≡◌, sym, ap, ◌∙◌}
+use Prim.Native.Nat.{ℕ, ◌+◌}
 use native.Mathlib.Omega.{arith}
-use Rattle.along.proofs.Advance.{ended_at, walk_came}
+use lib.ListN.{get_or, set}
+use Rattle.positions.specs.Alive.{ended_at}
+use Rattle.along.proofs.Advance.{ended_all, walk_came}
+use Rattle.along.proofs.Stocks.{went}
 use Rattle.along.proofs.walk.advance.Goals as goal
+use Rattle.along.proofs.walk.advance.Goals.{After-put-at}
 
-pub onward-u-requires : goal.onward-u-requires
-onward-u-requires c =
-    record { linked = rw c.letter-at.ensures.0 c.requires.advances.linked; charted = c.requires.charted; stock = c.requires.stock }
+-- the letter is written
+written : (c : After-put-at) → c.put-at.new.tree ≡ set c.args.tree.now c.args.s.at (256 + get_or c.args.text.now c.args.s.read 0)
+written c = c.put-at.ensures.1 ∙ ap (λ (b : ℕ). set c.args.tree.now c.args.s.at b) c.letter.ensures
 
-pub returns : goal.returns
-returns c =
-    let went = c.onward-u.ensures in
-    let letter = c.letter-at.ensures in
-    let asked = c.args in
-    let left = c.requires.advances.left in record {
-      advanced = record {
-        goes = λ e w a.
-            let last = ended_at asked.text.now (asked.s.read + 1) (omega (arith, left)) in
-            walk_came w left a c.load.ensures last letter.0 letter.1 went.went c.also-step.ensures;
-      };
-      stocked = went.stocked;
+pub returns-then-next-text-clause-advanced : goal.returns-then-next-text-clause-advanced
+returns-then-next-text-clause-advanced c =
+    let text = c.args.text.now in
+    let put = (goal.at.returns-then-next-text-clause-advanced c).After-put-at in
+    record {
+      goes = λ e w a.
+          walk_came w c.requires.advances.left a c.load-goal.ensures (ended_all text _ c.if-next-text.true) c.put-at.ensures.0 (written put)
+          (went c.resume.ensures) c.also.ensures;
+    }
+
+pub returns-clause-advanced : goal.returns-clause-advanced
+returns-clause-advanced c =
+    let text = c.args.text.now in
+    let left = c.requires.advances.left in
+    let put = (goal.at.returns-clause-advanced c).After-put-at in
+    record {
+      goes = λ e w a.
+          walk_came w left a c.load-goal.ensures (sym (ended_at text _ (omega (arith, left, c.if-next-text.false)))) c.put-at.ensures.0 (written put)
+          c.onward.ensures.went c.also-2.ensures;
     }

@@ -1,16 +1,16 @@
 -- `lines::parts::split` meets its contract. Assumes nothing.
+use mathlib.Core.Path.{◌≡◌}
+use Prim.Native.Nat.{ℕ, ◌<◌, ◌≤◌}
+use lib.ListN.{length, get_or}
 use borrow.Author.Rules.{rules}
-use Rattle.lines.proofs.PartsLaws.{ahead_none, ahead_more, ahead_here, ahead_end}
+use Rattle.lines.proofs.PartsLaws.{split_first}
 use Rattle.lines.proofs.parts.split.Goals as goal
 
-pub loop-i-init : goal.loop-i-init
-loop-i-init c = ahead_none _
-
-pub returns-then-input-i-eq10 : goal.returns-then-input-i-eq10
-returns-then-input-i-eq10 c = ahead_here _ _ c.loop-i.invariant (search rules) c.if-input-i-eq10.true
-
-pub loop-i-preserved : goal.loop-i-preserved
-loop-i-preserved c = ahead_more _ _ c.loop-i.invariant (search rules) c.if-input-i-eq10.false
-
 pub returns : goal.returns
-returns c = ahead_end _ _ c.loop-i.invariant (search rules)
+returns c =
+    let input = c.args.input.now in
+    let at = c.unwrap_or.result in
+    let within : at ≤ length input = search rules in
+    let before : (k : ℕ) → k < at → get_or input k 0 ≡ 10 → ⊥ = search rules in
+    let here : at < length input → get_or input at 0 ≡ 10 = search rules in
+    split_first input at within before here

@@ -1,9 +1,8 @@
 -- `passes::backward::back` meets its contract. Assumes nothing.
-use mathlib.Core.Path.{ap, ap₂, ◌∙◌}
+use mathlib.Core.Path.{ap, ◌∙◌}
 use mathlib.Core.Bool.{Bool, ◌&&◌}
-use Rattle.sets.specs.declared.set.Set.{Set}
-use Rattle.sets.specs.Members.{has}
+use Rattle.sets.specs.Members.{has, row}
 use Rattle.passes.proofs.backward.back.Goals as goal
 
 pub returns : goal.returns
-returns c = λ q. c.meet.ensures q ∙ ap₂ (λ (x y : Bool). x && y) (ap (λ (s : Set). has s q) c.load-reading.ensures) (c.after-before.ensures q)
+returns c = λ q. c.meet.ensures q ∙ ap (λ (y : Bool). has (row c.args.mask.now c.args.b) q && y) (c.after-before.ensures q)

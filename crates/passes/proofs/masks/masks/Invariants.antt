@@ -1,10 +1,6 @@
 -- `passes::masks::masks`, the loop's invariant: the positions joined the rows of the bytes in the words before word i. Assumes nothing.
-use Prim.Native.Nat.{◌*◌, ◌-◌, ◌≤◌}
 use Rattle.passes.proofs.Upto.{Brought}
 use Rattle.passes.proofs.masks.masks.Given as goal
 
 abbrev pub invariant-loop-i : goal.invariant-loop-i
-invariant-loop-i l = (l.i ≤ 4 * l.positions) × Brought l.class l.i l.initial.mask l.mask
-
-abbrev pub decreases-loop-i : goal.decreases-loop-i
-decreases-loop-i l = 4 * l.positions - l.i
+invariant-loop-i l = Brought l.class l.i l.initial.mask l.mask

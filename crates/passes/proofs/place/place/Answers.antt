@@ -3,9 +3,8 @@ use mathlib.Core.Path.{◌≡◌, sym, ap, ◌∙◌}
 use mathlib.Core.Bool.{◌&&◌}
 use Prim.Native.Nat.{ℕ, ◌+◌, ◌<◌}
 use native.Mathlib.Omega.{arith}
-use native.Mathlib.Nat.{zero-add, add-zero}
+use native.Mathlib.Nat.{add-zero}
 use lib.ListN.{length, get_or}
-use Rattle.sets.specs.declared.set.Set.{Set}
 use Rattle.sets.specs.Members.{has, row}
 use Rattle.passes.proofs.Reach.{readable_stops, readable_more, readable_end}
 use Rattle.passes.proofs.place.place.Goals as goal
@@ -16,16 +15,7 @@ reading : (c : After-meet-reading) (q : ℕ)
     → let now = c.loop-i in
     let asked = c.args in
     has c.meet-reading.result q ≡ (has now.next q && has (row asked.mask.now (get_or asked.text.now now.i 0)) q)
-reading c q = c.meet-reading.ensures q ∙ ap (λ (s : Set). has c.loop-i.next q && has s q) c.load.ensures
-
-pub loop-i-init : goal.loop-i-init
-loop-i-init c = (omega arith, sym (zero-add _))
-
-pub overflow_cast-text : goal.overflow_cast-text
-overflow_cast-text c = omega arith
-
-pub load-requires : goal.load-requires
-load-requires c = omega arith
+reading c q = c.meet-reading.ensures q
 
 pub returns-then-is_empty : goal.returns-then-is_empty
 returns-then-is_empty c =
@@ -36,10 +26,7 @@ returns-then-is_empty c =
     let stops =
     readable_stops asked.mask.now asked.follow.now asked.text.now (has turn.next) turn.i (omega arith) read.meet-reading.result
     (reading read) none in
-    sym (turn.invariant.1 ∙ ap (λ (n : ℕ). turn.i + n) stops ∙ add-zero _)
-
-pub after-next-requires : goal.after-next-requires
-after-next-requires c = omega (arith, c.requires)
+    sym (turn.invariant ∙ ap (λ (n : ℕ). turn.i + n) stops ∙ add-zero _)
 
 pub loop-i-preserved : goal.loop-i-preserved
 loop-i-preserved c =
@@ -51,11 +38,11 @@ loop-i-preserved c =
     let more =
     readable_more asked.mask.now asked.follow.now asked.text.now (has turn.next) turn.i left read.meet-reading.result (reading read) some
     c.after-next.result c.after-next.ensures in
-    (omega arith, omega (arith, more, turn.invariant.1))
+    omega (arith, more, turn.invariant)
 
 pub returns : goal.returns
 returns c =
     let turn = c.loop-i in
     let asked = c.args in
     let end = readable_end asked.mask.now asked.follow.now asked.text.now (has turn.next) turn.i (omega arith) in
-    omega (arith, end, turn.invariant.1)
+    omega (arith, end, turn.invariant)

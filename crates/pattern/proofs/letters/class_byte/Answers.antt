@@ -1,27 +1,31 @@
 -- `class_byte` meets its contract. Assumes nothing.
-use native.Mathlib.Omega.{arith}
-use Rattle.grammar.specs.ClassContract.{bare_at, quoted_at, char_end, char_stray, char_cut, at_open, at_end, at_dash}
-use Rattle.grammar.specs.ByteTests.{class_plain, class_stray}
+use Rattle.std.proofs.Common.{◌≡◌, false, arith, rules}
+use Rattle.grammar.specs.ClassContract.{bare_at, quoted_at, char_end, char_stray, char_cut}
+use Rattle.meaning.specs.Grammar.{one_of, class_signs}
+use Rattle.pattern.proofs.Signs.{no_byte, class_plain, class_stray}
 use Rattle.pattern.proofs.letters.class_byte.Goals as goal
 
-pub returns-then-b-eq91 : goal.returns-then-b-eq91
-returns-then-b-eq91 c = char_stray c.if-at-p.true (class_stray c.if-b-eq91.true at_open)
+pub returns-in_default : goal.returns-in_default
+returns-in_default c = char_end (omega (arith, no_byte c.in_default.ensures.lookup.0))
 
-pub returns-then-b-eq93 : goal.returns-then-b-eq93
-returns-then-b-eq93 c = char_stray c.if-at-p.true (class_stray c.if-b-eq93.true at_end)
+pub returns-in-91 : goal.returns-in-91
+returns-in-91 c =
+    let b = c.in-Some.ensures.lookup.3 in
+    char_stray b.0 (class_stray (rw (b.1 0) at c.in-91.is))
 
-pub returns-then-b-eq45 : goal.returns-then-b-eq45
-returns-then-b-eq45 c = char_stray c.if-at-p.true (class_stray c.if-b-eq45.true at_dash)
+pub returns-in-None : goal.returns-in-None
+returns-in-None c =
+    let b = c.in-Some.ensures.lookup.3 in
+    char_cut (omega (arith, b.0, no_byte c.in-None.ensures.lookup.0)) (omega (arith, b.1 0))
 
-pub returns-then-next-p : goal.returns-then-next-p
-returns-then-next-p c = (quoted_at c.if-next-p.true c.if-b-eq92.true, record { on = omega arith; inside = omega arith })
+pub returns-in-Some-get : goal.returns-in-Some-get
+returns-in-Some-get c =
+    let b = c.in-Some.ensures.lookup.3 in
+    let d = c.in-Some-get.ensures.lookup.3 in
+    (rw (d.1 0) (quoted_at d.0 (omega (arith, b.1 0))), record { on = omega arith; inside = omega (arith, d.0) })
 
-pub returns-then-b-eq92 : goal.returns-then-b-eq92
-returns-then-b-eq92 c = char_cut (omega arith) c.if-b-eq92.true
-
-pub returns-else-b-eq92 : goal.returns-else-b-eq92
-returns-else-b-eq92 c = let plain = class_plain c.if-b-eq91.false c.if-b-eq93.false c.if-b-eq45.false c.if-b-eq92.false in
-    (bare_at c.if-at-p.true plain, record { on = omega arith; inside = omega arith })
-
-pub returns-else-at-p : goal.returns-else-at-p
-returns-else-at-p c = char_end (omega arith)
+pub returns-in_default-byte : goal.returns-in_default-byte
+returns-in_default-byte c =
+    let b = c.in-Some.ensures.lookup.3 in
+    let plain : one_of class_signs c.in-Some.field-0.now ≡ false = class_plain {b = c.in-Some.field-0.now} (search rules) (λ e. omega arith) in
+    (rw (b.1 0) (bare_at b.0 (rw (b.1 0) at plain)), record { on = omega arith; inside = omega (arith, b.0) })

@@ -1,34 +1,41 @@
 -- `letter` meets its contract: one law for each way through it. Assumes nothing.
-use native.Mathlib.Omega.{arith}
-use Rattle.grammar.specs.Contract.{atom_plain, atom_dot, atom_escaped, atom_cut, atom_stray, atom_end}
-use Rattle.pattern.proofs.Classes.{no_letter, test_letter, class_letter}
+use Rattle.std.proofs.Common.{◌≡◌, ◌∙◌, sym, arith}
+use Rattle.meaning.specs.Grammar.{any}
+use Rattle.grammar.specs.Contract.{atom_plain, atom_dot, atom_escaped, atom_cut, atom_stray}
+use Rattle.pattern.proofs.Classes.{byte_letter, class_letter}
+use Rattle.pattern.proofs.Signs.{no_byte, is_stray, plain}
 use Rattle.pattern.proofs.letters.letter.Goals as goal
 
-pub returns-then-p-at : goal.returns-then-p-at
-returns-then-p-at c = no_letter _ c.refused.ensures (atom_end _ _ (omega (arith, c.if-p-at.true, c.requires.0)))
+pub returns-in-91 : goal.returns-in-91
+returns-in-91 c =
+    let b = c.in-Some.ensures.lookup.3 in
+    class_letter c.args.p.now c.args.at c.class.result b.0 (sym (b.1 0) ∙ c.in-91.is) c.class.ensures
 
-pub returns-then-b-eq91 : goal.returns-then-b-eq91
-returns-then-b-eq91 c = class_letter c.args.p.now c.args.at c.class.result c.if-p-at.false c.if-b-eq91.true c.class.ensures
+pub returns-in_default-get : goal.returns-in_default-get
+returns-in_default-get c =
+    let b = c.in-Some.ensures.lookup.3 in
+    atom_cut _ _ b.0 (sym (b.1 0) ∙ c.in-92.is) (omega (arith, b.0, no_byte c.in_default-get.ensures.lookup.0))
 
-pub returns-then-next-p : goal.returns-then-next-p
-returns-then-next-p c = let inside = c.if-p-at.false in let next = c.if-next-p.true in
-    test_letter c.ranged.ensures (atom_escaped _ _ inside c.if-b-eq92.true next) (omega (arith, next))
+pub returns-in-Some-get : goal.returns-in-Some-get
+returns-in-Some-get c =
+    let b = c.in-Some.ensures.lookup.3 in
+    let d = c.in-Some-get.ensures.lookup.3 in
+    byte_letter _ _ _ (rw (d.1 0) (atom_escaped _ _ b.0 (sym (b.1 0) ∙ c.in-92.is) d.0)) c.none.ensures c.with.ensures (omega (arith, d.0))
 
-pub returns-then-b-eq92 : goal.returns-then-b-eq92
-returns-then-b-eq92 c = let inside = c.if-p-at.false in
-    no_letter _ c.refused-then-b-eq92.ensures (atom_cut _ _ inside c.if-b-eq92.true (omega (arith, c.if-next-p.false, inside)))
-
-pub returns-then-b-eq46 : goal.returns-then-b-eq46
-returns-then-b-eq46 c = let inside = c.if-p-at.false in
-    test_letter c.whole.ensures (atom_dot _ _ inside c.if-b-eq46.true) (omega (arith, inside))
+pub returns-in-46 : goal.returns-in-46
+returns-in-46 c =
+    let b = c.in-Some.ensures.lookup.3 in
+    record { test = any; done = atom_dot _ _ b.0 (sym (b.1 0) ∙ c.in-46.is); says = c.all.ensures; on = omega (arith, b.0) }
 
 pub returns-then-stray : goal.returns-then-stray
-returns-then-stray c = let inside = c.if-p-at.false in
-    let strays = rw c.if-stray.true at c.stray.ensures in
-    no_letter _ c.refused-then-stray.ensures (atom_stray _ _ inside strays)
+returns-then-stray c =
+    let b = c.in-Some.ensures.lookup.3 in
+    atom_stray _ _ b.0 (rw (b.1 0) at (is_stray {b = c.in-Some.field-0.now} (c.stray.ensures ∙ c.if-stray.true)))
 
-pub returns : goal.returns
-returns c = let inside = c.if-p-at.false in let no_group = c.requires.1 in
-    let plain = rw c.if-stray.false at c.stray.ensures in
-    let starts = plain (λ e. no_group (record { inside = inside; is = e })) c.if-b-eq91.false c.if-b-eq92.false c.if-b-eq46.false in
-    test_letter c.ranged-2.ensures (atom_plain _ _ inside starts) (omega (arith, inside))
+pub returns-in_default-b : goal.returns-in_default-b
+returns-in_default-b c =
+    let b = c.in-Some.ensures.lookup.3 in
+    let is = b.1 0 in
+    let no_group = λ (e : c.in-Some.field-0.now ≡ 40). c.requires.1 (record { inside = b.0; is = sym is ∙ e }) in
+    let starts = plain (c.stray.ensures ∙ c.if-stray.false) no_group (λ e. omega arith) (λ e. omega arith) (λ e. omega arith) in
+    byte_letter _ _ _ (rw is (atom_plain _ _ b.0 (rw is at starts))) c.none-in_default-b.ensures c.with-in_default-b.ensures (omega (arith, b.0))

@@ -1,4 +1,5 @@
 -- `keep` meets its contract. Assumes nothing.
+use Rattle.std.proofs.Common.{arith}
 use Rattle.sets.proofs.ClassLaws.{class_fits}
 use Rattle.pattern.proofs.Classes.{kept, unkept}
 use Rattle.pattern.proofs.nodes.keep.Goals as goal
@@ -7,4 +8,4 @@ pub returns-then-n-lt-POSITION_LIMIT : goal.returns-then-n-lt-POSITION_LIMIT
 returns-then-n-lt-POSITION_LIMIT c = λ f h. kept _ _ _ f (class_fits c.well_formed.1.1.0) h
 
 pub returns-else-n-lt-POSITION_LIMIT : goal.returns-else-n-lt-POSITION_LIMIT
-returns-else-n-lt-POSITION_LIMIT c = λ f h. unkept _ _ c.args.k f c.requires c.if-n-lt-POSITION_LIMIT.false
+returns-else-n-lt-POSITION_LIMIT c = λ f h. unkept _ _ f (omega arith) c.if-n-lt-POSITION_LIMIT.false

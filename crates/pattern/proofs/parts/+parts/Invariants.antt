@@ -18,7 +18,7 @@ abbrev pub decreases-list : goal.decreases-list
 decreases-list l = 4 * (length l.p.now - l.c.at + l.left) + 3
 
 abbrev pub invariant-list-loop-e : goal.invariant-list-loop-e
-invariant-list-loop-e l = AtBar l.p l.left l.fn.c l.d (stores l.fn.kind l.fn.arg l.fn.class) (stores l.kind l.arg l.class)
+invariant-list-loop-e l = AtBar l.p l.left l.fn.c l.d (stores l.fn.read) (stores l.read)
 
 abbrev pub decreases-list-loop-e : goal.decreases-list-loop-e
 decreases-list-loop-e l = length l.p - l.d.at

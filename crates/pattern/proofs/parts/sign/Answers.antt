@@ -1,20 +1,23 @@
 -- `sign` meets its contract. Assumes nothing.
-use native.Mathlib.Omega.{arith}
+use Rattle.std.proofs.Common.{arith, ◌∙◌, sym}
 use Rattle.grammar.specs.ByteTests.{no_sign}
 use Rattle.pattern.specs.Parts.{star_at, plus_at, opt_at, none_at}
+use Rattle.pattern.proofs.Signs.{no_byte}
 use Rattle.pattern.proofs.parts.sign.Goals as goal
 
-pub returns-then-b-eq42 : goal.returns-then-b-eq42
-returns-then-b-eq42 c = star_at (record { inside = c.if-at-p.true; is = c.if-b-eq42.true })
+pub returns-in_err-get : goal.returns-in_err-get
+returns-in_err-get c = rw c.from_residual.ensures (none_at (λ l f s. omega (arith, no_byte c.in_err-get.ensures.lookup.0)))
 
-pub returns-then-b-eq43 : goal.returns-then-b-eq43
-returns-then-b-eq43 c = plus_at (record { inside = c.if-at-p.true; is = c.if-b-eq43.true })
+pub returns-in-42 : goal.returns-in-42
+returns-in-42 c = let b = c.in_ok-get.ensures.lookup.3 in star_at (record { inside = b.0; is = sym (b.1 0) ∙ c.in-42.is })
 
-pub returns-then-b-eq63 : goal.returns-then-b-eq63
-returns-then-b-eq63 c = opt_at (record { inside = c.if-at-p.true; is = c.if-b-eq63.true })
+pub returns-in-43 : goal.returns-in-43
+returns-in-43 c = let b = c.in_ok-get.ensures.lookup.3 in plus_at (record { inside = b.0; is = sym (b.1 0) ∙ c.in-43.is })
 
-pub returns-else-b-eq63 : goal.returns-else-b-eq63
-returns-else-b-eq63 c = none_at (λ l f s. no_sign c.if-b-eq42.false c.if-b-eq43.false c.if-b-eq63.false f s)
+pub returns-in-63 : goal.returns-in-63
+returns-in-63 c = let b = c.in_ok-get.ensures.lookup.3 in opt_at (record { inside = b.0; is = sym (b.1 0) ∙ c.in-63.is })
 
-pub returns-else-at-p : goal.returns-else-at-p
-returns-else-at-p c = none_at (λ l f s. omega (arith, c.if-at-p.false, l))
+pub returns-in_default : goal.returns-in_default
+returns-in_default c =
+    let b = c.in_ok-get.ensures.lookup.3.1 0 in
+    none_at (λ l. no_sign (λ e. omega arith) (λ e. omega arith) (λ e. omega arith))

@@ -1,40 +1,41 @@
 -- `step` meets its contract: one law for each way through it. Assumes nothing.
-use mathlib.Core.Path.{refl, ◌∙◌}
-use native.Mathlib.Omega.{arith}
+use Rattle.std.proofs.Common.{◌∙◌, arith}
 use Rattle.grammar.specs.Flat.{scan_open, scan_close, scan_close_behind_bar, scan_close_alone, scan_bar, scan_bar_early, scan_sign, scan_sign_early}
-use Rattle.pattern.proofs.Signs.{unsigned, some_sign}
-use Rattle.pattern.proofs.Turns.{turn_byte}
+use Rattle.pattern.proofs.Signs.{some_sign}
 use Rattle.pattern.proofs.scan.step.Goals as goal
+use Rattle.pattern.proofs.scan.step.Goals.{then-groups-eq0-via-then-groups-eq0, then-groups-eq0-via-else-groups-eq0+then-not-ends_group}
 
-pub returns-then-b-eq40 : goal.returns-then-b-eq40
-returns-then-b-eq40 c = (turn_byte c.on.ensures c.requires.2 (scan_open c.requires.1 c.requires.2 c.if-b-eq40.true), refl)
+pub returns-in-40 : goal.returns-in-40
+returns-in-40 c = rw c.past.ensures (scan_open c.requires.0 c.requires.1 c.in-40.is, omega arith)
 
 pub returns-then-groups-eq0 : goal.returns-then-groups-eq0
-returns-then-groups-eq0 c = (scan_close_alone c.requires.1 c.requires.2 c.if-b-eq41.true c.if-groups-eq0.true, refl)
+returns-then-groups-eq0 c =
+    elim c.then-groups-eq0.branch [
+      | then-groups-eq0-via-then-groups-eq0 w ↦ scan_close_alone c.requires.0 c.requires.1 c.in-41.is w.if-groups-eq0.true
+      | then-groups-eq0-via-else-groups-eq0+then-not-ends_group w ↦
+          scan_close_behind_bar c.requires.0 c.requires.1 c.in-41.is (w.ends_group.ensures ∙ w.if-not-ends_group.true)
+    ]
 
-pub returns-then-ends_group : goal.returns-then-ends_group
-returns-then-ends_group c = let group = scan_close c.requires.1 c.requires.2 c.if-b-eq41.true (omega (arith, c.if-groups-eq0.false)) (c.ends_group.ensures ∙ c.if-ends_group.true) in
-    (turn_byte c.on-then-ends_group.ensures c.requires.2 group, refl)
+pub returns-else-not-ends_group : goal.returns-else-not-ends_group
+returns-else-not-ends_group c =
+    let group = scan_close c.requires.0 c.requires.1 c.in-41.is (omega arith) (c.ends_group.ensures ∙ c.if-not-ends_group.false) in
+    rw c.past-in-41.ensures (group, omega arith)
 
-pub returns-then-b-eq41 : goal.returns-then-b-eq41
-returns-then-b-eq41 c = (scan_close_behind_bar c.requires.1 c.requires.2 c.if-b-eq41.true (c.ends_group.ensures ∙ c.if-ends_group.false), refl)
+pub returns-then-not-ends_branch : goal.returns-then-not-ends_branch
+returns-then-not-ends_branch c = scan_bar_early c.requires.0 c.requires.1 c.in-124.is (c.ends_branch.ensures ∙ c.if-not-ends_branch.true)
 
-pub returns-then-ends_branch : goal.returns-then-ends_branch
-returns-then-ends_branch c = let branch = scan_bar c.requires.1 c.requires.2 c.if-b-eq124.true (c.ends_branch.ensures ∙ c.if-ends_branch.true) in
-    (turn_byte c.on-then-ends_branch.ensures c.requires.2 branch, refl)
+pub returns-else-not-ends_branch : goal.returns-else-not-ends_branch
+returns-else-not-ends_branch c =
+    let branch = scan_bar c.requires.0 c.requires.1 c.in-124.is (c.ends_branch.ensures ∙ c.if-not-ends_branch.false) in
+    rw c.past-in-124.ensures (branch, omega arith)
 
-pub returns-then-b-eq124 : goal.returns-then-b-eq124
-returns-then-b-eq124 c = (scan_bar_early c.requires.1 c.requires.2 c.if-b-eq124.true (c.ends_branch.ensures ∙ c.if-ends_branch.false), refl)
+pub returns-then-not-takes_sign : goal.returns-then-not-takes_sign
+returns-then-not-takes_sign c =
+    let sign = some_sign c.sign.ensures c.if-is_none.ensures in
+    scan_sign_early c.requires.0 c.requires.1 sign.is (c.takes_sign.ensures ∙ c.if-not-takes_sign.true)
 
-pub lettered-requires : goal.lettered-requires
-lettered-requires c = let no_sign = unsigned c.sign.ensures c.if-sign-eq0.true c.requires.2 in
-    (c.requires.0, c.requires.1, c.requires.2, record { no_open = c.if-b-eq40.false; no_close = c.if-b-eq41.false; no_bar = c.if-b-eq124.false; no_sign = no_sign })
-
-pub returns-then-takes_sign : goal.returns-then-takes_sign
-returns-then-takes_sign c = let sign = some_sign c.sign.ensures c.if-sign-eq0.false in
-    let item = scan_sign c.requires.1 c.requires.2 sign.is (c.takes_sign.ensures ∙ c.if-takes_sign.true) in
-    (turn_byte c.on-then-takes_sign.ensures c.requires.2 item, refl)
-
-pub returns : goal.returns
-returns c = let sign = some_sign c.sign.ensures c.if-sign-eq0.false in
-    (scan_sign_early c.requires.1 c.requires.2 sign.is (c.takes_sign.ensures ∙ c.if-takes_sign.false), refl)
+pub returns-else-not-takes_sign : goal.returns-else-not-takes_sign
+returns-else-not-takes_sign c =
+    let sign = some_sign c.sign.ensures c.if-is_none.ensures in
+    let item = scan_sign c.requires.0 c.requires.1 sign.is (c.takes_sign.ensures ∙ c.if-not-takes_sign.false) in
+    rw c.past-in_default.ensures (item, omega arith)

@@ -1,15 +1,12 @@
--- `sheet::checks::greatest` meets its contract. The loop's invariant: the greatest so far, and of the row from i on, is that of the row. Assumes nothing.
-use native.Mathlib.Omega.{arith}
-use Rattle.laws.specs.Sums.{greatest_from, greatest_end}
+-- `sheet::checks::greatest` meets its contract. Assumes nothing.
+use Rattle.std.proofs.Common.{◌∙◌, sym}
+use Rattle.std.proofs.lemmas.Iterator.{YieldsList-from_slice}
+use Rattle.std.proofs.lemmas.Iterator.Adapters.{option_map_id}
+use Rattle.std.proofs.lemmas.Iterator.Consumers.{YieldsList-from_copied, max_from_yields_List}
+use Rattle.sheet.proofs.CheckLaws.{greatest_reduced}
 use Rattle.sheet.proofs.checks.greatest.Goals as goal
-
-pub loop-i-init : goal.loop-i-init
-loop-i-init c = (omega arith, omega arith)
-
-pub loop-i-preserved : goal.loop-i-preserved
-loop-i-preserved c =
-    (omega arith, omega (arith, c.greater-most.ensures, c.loop-i.invariant.1, greatest_from c.args.row.now c.loop-i.i (omega arith)))
 
 pub returns : goal.returns
 returns c =
-    omega (arith, c.loop-i.invariant.1, greatest_end c.args.row.now c.loop-i.i (omega arith))
+    let most = max_from_yields_List c.copied.result c.max.result c.max.ensures.ran (YieldsList-from_copied (YieldsList-from_slice c.args.row.now cc)) in
+    greatest_reduced c.args.row.now (sym (option_map_id c.max.result) ∙ most) c.unwrap_or.ensures

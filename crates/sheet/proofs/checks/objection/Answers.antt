@@ -3,22 +3,21 @@ use Rattle.std.proofs.Common.{◌≡◌, ℕ, Bool, true, eqb, sym, ◌∙◌, i
 use borrow.Author.Tests.{eqb-true, eqb-false}
 use Rattle.sheet.specs.Checks.{to_lengths, to_marks, to_last, to_nothing}
 use Rattle.sheet.proofs.checks.objection.Goals as goal
+use Rattle.sheet.proofs.checks.objection.Goals.{then-lengths-gt-REPORT_LIMIT-via-then-lengths-gt-REPORT_LIMIT, then-lengths-gt-REPORT_LIMIT-via-else-lengths-gt-REPORT_LIMIT+then-not-add_up}
 
 -- the lengths add up
 added : {s n : ℕ} {b : Bool} → b ≡ eqb s n → b ≡ true → s ≡ n
 added e t = eqb-true _ _ (sym e ∙ t)
 
 pub returns-then-lengths-gt-REPORT_LIMIT : goal.returns-then-lengths-gt-REPORT_LIMIT
-returns-then-lengths-gt-REPORT_LIMIT c = to_lengths (inl (omega arith))
-
-pub returns-then-not-add_up : goal.returns-then-not-add_up
-returns-then-not-add_up c = to_lengths (inr (eqb-false _ _ (sym c.add_up.ensures ∙ c.if-not-add_up.true)))
+returns-then-lengths-gt-REPORT_LIMIT c =
+    to_lengths (elim c.then-lengths-gt-REPORT_LIMIT.branch [
+      | then-lengths-gt-REPORT_LIMIT-via-then-lengths-gt-REPORT_LIMIT w ↦ inl (omega arith)
+      | then-lengths-gt-REPORT_LIMIT-via-else-lengths-gt-REPORT_LIMIT+then-not-add_up w ↦ inr (eqb-false _ _ (sym w.add_up.ensures ∙ w.if-not-add_up.true))
+    ])
 
 pub returns-then-records-marks : goal.returns-then-records-marks
-returns-then-records-marks c = to_marks (omega arith) (added c.add_up.ensures c.if-not-add_up.false) (inl (λ z. omega arith))
-
-pub returns-then-last-marks : goal.returns-then-last-marks
-returns-then-last-marks c = to_marks (omega arith) (added c.add_up.ensures c.if-not-add_up.false) (inr (λ z. omega arith))
+returns-then-records-marks c = to_marks (omega arith) (added c.add_up.ensures c.if-not-add_up.false) (elim c.then-records-marks.either [ inl d ↦ inl d | inr d ↦ inr d.1 ])
 
 pub returns-then-greatest-gt-LAST_LIMIT : goal.returns-then-greatest-gt-LAST_LIMIT
 returns-then-greatest-gt-LAST_LIMIT c = to_last (omega arith) (added c.add_up.ensures c.if-not-add_up.false) (omega arith) (omega arith) (omega arith)

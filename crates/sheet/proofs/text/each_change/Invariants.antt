@@ -1,16 +1,11 @@
--- `sheet::text::each_change` meets its contract. Assumes nothing.
-use mathlib.Core.List.{List}
-use Prim.Native.Nat.{ℕ, ◌+◌, ◌*◌, ◌-◌, ◌≤◌}
+-- `sheet::text::each_change`, the loop's invariant: the change is put of each mark that the iterator has given. Assumes nothing.
+use Prim.Native.Nat.{◌+◌, ◌*◌, ◌≤◌}
 use lib.ListN.{length, take}
 use Rattle.meaning.specs.Sheet.{change_lines}
-use Rattle.lines.specs.Wrote.{Wrote}
-use Rattle.sheet.specs.Figures.{records_from}
+use Rattle.lines.specs.Puts.{Puts}
 use Rattle.sheet.proofs.text.each_change.Given as goal
 
-abbrev pub invariant-loop-i : goal.invariant-loop-i
-invariant-loop-i l =
-    (l.i ≤ length l.last) × (l.to ≤ l.at + 22 * l.i)
-    × ((bytes longest : List ℕ) → Wrote l.initial.out l.at (change_lines (records_from l.turns bytes longest 0 l.i) (take l.i l.last)) l.out l.to)
-
-abbrev pub decreases-loop-i : goal.decreases-loop-i
-decreases-loop-i l = length l.last - l.i
+abbrev pub invariant-loop-tonight : goal.invariant-loop-tonight
+invariant-loop-tonight l =
+    let n = length l.yielded in
+    record { puts : Puts l.initial.w (change_lines (take n l.figures) (take n l.last)) l.w; upper_bound : l.w.at ≤ l.initial.w.at + 22 * n }

@@ -1,22 +1,18 @@
 -- `sheet::text::each_line` meets its contract. Assumes nothing.
-use borrow.Author.Rules.{rules}
+use native.Mathlib.Omega.{arith}
 use Rattle.meaning.specs.Sheet.{lines}
-use Rattle.lines.proofs.WroteLaws.{wrote_none, wrote_kept}
-use Rattle.sheet.proofs.TextLaws.{wrote_same, wrote_more, lines_more, lines_all}
+use Rattle.lines.proofs.PutsLaws.{puts_none}
+use Rattle.sheet.proofs.TextLaws.{puts_more, lines_more}
 use Rattle.sheet.proofs.text.each_line.Goals as goal
 
-pub loop-i-init : goal.loop-i-init
+pub loop-n-init : goal.loop-n-init
 unfolding lines
-loop-i-init c = (search rules, search rules, wrote_none _ _)
+loop-n-init c = record { puts = puts_none _; upper_bound = omega arith }
 
-pub loop-i-preserved : goal.loop-i-preserved
-loop-i-preserved c = let row = c.args.row.now in
-    let more = lines_more row c.loop-i.i (search rules) in
-    (search rules, search rules, wrote_more more c.loop-i.invariant.2 c.line-to.ensures.wrote)
-
-pub shape_of-out : goal.shape_of-out
-shape_of-out c = wrote_kept c.loop-i.invariant.2
-
-pub returns : goal.returns
-returns c = let all = lines_all c.args.row.now c.loop-i.i (search rules) in
-    record { wrote = wrote_same all c.loop-i.invariant.2; upper_bound = search rules }
+pub loop-n-preserved : goal.loop-n-preserved
+loop-n-preserved c =
+    let l = c.loop-n in
+    record {
+      puts = puts_more (lines_more c.args.row.now l.n-index (omega arith)) l.invariant.puts (rw c.from.ensures at c.line.ensures.puts);
+      upper_bound = omega arith;
+    }

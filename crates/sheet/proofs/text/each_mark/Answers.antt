@@ -1,26 +1,18 @@
 -- `sheet::text::each_mark` meets its contract. Assumes nothing.
-use borrow.Author.Rules.{rules}
+use native.Mathlib.Omega.{arith}
 use Rattle.meaning.specs.Sheet.{mark_lines}
-use Rattle.lines.proofs.WroteLaws.{wrote_none, wrote_kept}
-use Rattle.sheet.specs.Figures.{records_from}
-use Rattle.sheet.proofs.TextLaws.{wrote_same, wrote_more, marks_more, marks_all}
+use Rattle.lines.proofs.PutsLaws.{puts_none}
+use Rattle.sheet.proofs.TextLaws.{puts_more, marks_more}
 use Rattle.sheet.proofs.text.each_mark.Goals as goal
 
-pub loop-i-init : goal.loop-i-init
-unfolding mark_lines records_from
-loop-i-init c = (search rules, search rules, wrote_none _ _)
+pub loop-of_mark-init : goal.loop-of_mark-init
+unfolding mark_lines
+loop-of_mark-init c = record { puts = puts_none _; upper_bound = omega arith }
 
-pub loop-i-preserved : goal.loop-i-preserved
-loop-i-preserved c =
-    let entry = c.args in
-    let more = marks_more entry.turns.now entry.bytes.now entry.longest.now c.loop-i.i in
-    (search rules, search rules, wrote_more more c.loop-i.invariant.2 c.mark_lines-to.ensures.wrote)
-
-pub shape_of-out : goal.shape_of-out
-shape_of-out c = wrote_kept c.loop-i.invariant.2
-
-pub returns : goal.returns
-returns c =
-    let entry = c.args in
-    let all = marks_all entry.turns.now entry.bytes.now entry.longest.now c.loop-i.i entry.marks (search rules) (search rules) in
-    record { wrote = wrote_same all c.loop-i.invariant.2; upper_bound = search rules }
+pub loop-of_mark-preserved : goal.loop-of_mark-preserved
+loop-of_mark-preserved c =
+    let l = c.loop-of_mark in
+    record {
+      puts = puts_more (marks_more c.args.figures.now l.of_mark-index (omega arith)) l.invariant.puts c.mark_lines.ensures.puts;
+      upper_bound = omega arith;
+    }

@@ -1,13 +1,9 @@
--- `sheet::text::each_mark` meets its contract. Assumes nothing.
-use Prim.Native.Nat.{◌+◌, ◌*◌, ◌-◌, ◌≤◌}
+-- `sheet::text::each_mark`, the loop's invariant: the lines are put of each mark before the index. Assumes nothing.
+use Prim.Native.Nat.{◌+◌, ◌*◌, ◌≤◌}
+use lib.ListN.{take}
 use Rattle.meaning.specs.Sheet.{mark_lines}
-use Rattle.lines.specs.Wrote.{Wrote}
-use Rattle.sheet.specs.Figures.{records_from}
+use Rattle.lines.specs.Puts.{Puts}
 use Rattle.sheet.proofs.text.each_mark.Given as goal
 
-abbrev pub invariant-loop-i : goal.invariant-loop-i
-invariant-loop-i l =
-    (l.i ≤ l.marks) × (l.to ≤ l.at + 63 * l.i) × Wrote l.initial.out l.at (mark_lines (records_from l.turns l.bytes l.longest 0 l.i)) l.out l.to
-
-abbrev pub decreases-loop-i : goal.decreases-loop-i
-decreases-loop-i l = l.marks - l.i
+abbrev pub invariant-loop-of_mark : goal.invariant-loop-of_mark
+invariant-loop-of_mark l = record { puts : Puts l.initial.w (mark_lines (take l.of_mark-index l.figures)) l.w; upper_bound : l.w.at ≤ l.initial.w.at + 63 * l.of_mark-index }

@@ -1,7 +1,6 @@
 -- `sheet::text::mark_lines` meets its contract. Assumes nothing.
-use borrow.Author.Rules.{rules}
-use Rattle.lines.proofs.WroteLaws.{wrote_then}
+use Rattle.lines.proofs.PutsLaws.{puts_then}
 use Rattle.sheet.proofs.text.mark_lines.Goals as goal
 
-pub returns : goal.returns
-returns c = record { wrote = wrote_then c.line-second.ensures.wrote (wrote_then c.line-third.ensures.wrote c.line.ensures.wrote); upper_bound = search rules }
+pub returns-clause-puts : goal.returns-clause-puts
+returns-clause-puts c = puts_then c.line.ensures.puts (puts_then c.line-2.ensures.puts c.line-3.ensures.puts)

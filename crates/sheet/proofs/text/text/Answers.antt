@@ -1,12 +1,13 @@
 -- `sheet::text::text` meets its contract. Assumes nothing.
-use Rattle.sheet.proofs.TextLaws.{wrote_sheet}
+use borrow.Author.Rules.{rules}
+use Rattle.lines.proofs.PutsLaws.{puts_wrote}
+use Rattle.sheet.proofs.TextLaws.{puts_sheet}
 use Rattle.sheet.proofs.text.text.Goals as goal
 
 pub returns : goal.returns
 returns c =
-    let bytes = c.args.bytes.now in
-    let longest = c.args.longest.now in
-    wrote_sheet c.args.numbers.now c.args.turns.now bytes longest c.args.last.now c.requires.each_last
-    c.line-reports.ensures.wrote c.each_line-count.ensures.wrote
-    c.line-figures.ensures.wrote c.each_mark-again.ensures.wrote
-    c.line-changes.ensures.wrote (c.each_change.ensures bytes longest)
+    let put =
+    puts_sheet c.args.numbers.now c.args.figures.now c.args.last.now c.line.ensures.puts c.each_line.ensures.puts c.line-2.ensures.puts c.each_mark.ensures.puts c.line-3.ensures.puts
+    c.each_change.ensures in
+    let wrote = puts_wrote c.new-w.ensures.row c.new-w.ensures.front put (search rules) in
+    rw c.len.ensures wrote

@@ -1,91 +1,114 @@
 -- `opens_first`: each part of a node stands below it, and both entries of a node come from those of its parts.
-use Rattle.std.proofs.Common.{◌∙◌, arith}
-use Rattle.walks.proofs.Parts.{held_place, held_part, held_left, held_right}
-use Rattle.walks.proofs.Fill.{set_put, walked_zero, walked_one, walked_two, right_one, right_left, right_right, count_kept}
-use Rattle.walks.proofs.Firsts.{stored_put, first_at_zero, first_at_one, first_at_two, end_at_zero, end_at_one, end_at_two}
+use Rattle.std.proofs.Common.{refl, arith}
+use Rattle.sets.specs.Members.{none}
+use Rattle.walks.specs.Tables.{leaf_first, leaf_end}
+use Rattle.walks.proofs.Parts.{above_one, above_two, eps_at, pos_at, pair_at, any_at, held_place, held_part, held_left, held_right}
+use Rattle.walks.proofs.Fill.{set_put, walked_zero, walked_one, walked_two, right_one, right_left, right_right}
+use Rattle.walks.proofs.Firsts.{first_at_zero, first_at_one, first_at_two, end_at_zero, end_at_one, end_at_two}
 use Rattle.walks.proofs.first.+opens_first.Goals as goal
 
-pub first_leaf-requires : goal.first_leaf-requires
-first_leaf-requires t c = λ z. omega (arith, c.wide.ensures, held_place c.requires.held z)
+pub of-requires : goal.of-requires
+of-requires t c = held_place c.requires.held (pos_at _ _ c.in-Pos.is)
 
-pub end_leaf-requires : goal.end_leaf-requires
-end_leaf-requires t c = λ z. held_place c.requires.held z
+pub returns-in-Eps-clause-walked_first : goal.returns-in-Eps-clause-walked_first
+unfolding leaf_first
+returns-in-Eps-clause-walked_first t c =
+    let bare = eps_at _ _ c.in-Eps.is in
+    walked_zero bare (set_put none _ _ _ (omega (arith, c.requires.held.within, c.told-first))) (first_at_zero bare c.empty.ensures.members)
 
-pub returns-then-k-lt-CAT-clause-walked_first : goal.returns-then-k-lt-CAT-clause-walked_first
-returns-then-k-lt-CAT-clause-walked_first t c =
-    walked_zero c.if-k-lt-CAT.true (stored_put c.store.ensures) (first_at_zero c.if-k-lt-CAT.true c.wide.ensures c.first_leaf.ensures)
+pub returns-in-Eps-clause-walked_upto : goal.returns-in-Eps-clause-walked_upto
+unfolding leaf_end
+returns-in-Eps-clause-walked_upto t c =
+    let bare = eps_at _ _ c.in-Eps.is in
+    walked_zero bare (set_put _ _ _ _ (omega (arith, c.requires.held.within, c.told-upto))) (end_at_zero bare refl)
 
-pub returns-then-k-lt-CAT-clause-walked_upto : goal.returns-then-k-lt-CAT-clause-walked_upto
-returns-then-k-lt-CAT-clause-walked_upto t c =
-    walked_zero c.if-k-lt-CAT.true
-    (set_put _ _ _ (omega (arith, c.requires.held.within, c.requires.sized.1)))
-    (end_at_zero c.if-k-lt-CAT.true c.end_leaf.ensures)
+pub returns-in-Pos-clause-walked_first : goal.returns-in-Pos-clause-walked_first
+unfolding leaf_first
+returns-in-Pos-clause-walked_first t c =
+    let bare = pos_at _ _ c.in-Pos.is in
+    walked_zero bare (set_put none _ _ _ (omega (arith, c.requires.held.within, c.told-first))) (first_at_zero bare c.of.ensures)
+
+pub returns-in-Pos-clause-walked_upto : goal.returns-in-Pos-clause-walked_upto
+unfolding leaf_end
+returns-in-Pos-clause-walked_upto t c =
+    let bare = pos_at _ _ c.in-Pos.is in
+    walked_zero bare (set_put _ _ _ _ (omega (arith, c.requires.held.within, c.told-upto))) (end_at_zero bare refl)
+
+pub overflow_sub-right : goal.overflow_sub-right
+overflow_sub-right t c = above_two (pair_at _ _ c.in-Cat.is) c.requires.held.holds
+
+pub overflow_sub-i : goal.overflow_sub-i
+overflow_sub-i t c = above_one (any_at _ _ c.in-Branch.is) c.requires.held.holds
+
+pub overflow_sub-first : goal.overflow_sub-first
+overflow_sub-first t c = above_one (any_at _ _ c.in-Branch.is) c.requires.held.holds
+
+pub overflow_sub-upto : goal.overflow_sub-upto
+overflow_sub-upto t c = above_one (any_at _ _ c.in-Branch.is) c.requires.held.holds
+
+pub overflow_add-upto : goal.overflow_add-upto
+overflow_add-upto t c = omega (arith, held_place c.requires.held (pos_at _ _ c.in-Pos.is))
+
+pub opens_first-requires-in-Cat : goal.opens_first-requires-in-Cat
+opens_first-requires-in-Cat t c =
+    let left = held_left c.requires.held (pair_at _ _ c.in-Cat.is) in
+    (omega (arith, c.decreases, left.0), (left.1, λ j h. c.requires.known j (omega (arith, left.0))))
+
+pub opens_first-requires-in-Cat-2 : goal.opens_first-requires-in-Cat-2
+opens_first-requires-in-Cat-2 t c =
+    let right = held_right c.requires.held (pair_at _ _ c.in-Cat.is) in
+    (omega (arith, c.decreases, right.0), (right.1, λ j h. c.requires.known j (omega (arith, right.0))))
+
+pub bounds-first-left : goal.bounds-first-left
+bounds-first-left t c = (held_left c.requires.held (pair_at _ _ c.in-Cat.is)).1.within
+
+pub bounds-null-left : goal.bounds-null-left
+bounds-null-left t c = (held_left c.requires.held (pair_at _ _ c.in-Cat.is)).1.within
+
+pub bounds-upto-left : goal.bounds-upto-left
+bounds-upto-left t c = (held_left c.requires.held (pair_at _ _ c.in-Cat.is)).1.within
+
+pub returns-in-Cat-clause-walked_first : goal.returns-in-Cat-clause-walked_first
+returns-in-Cat-clause-walked_first t c =
+    let held = c.requires.held in
+    let pair = pair_at _ _ c.in-Cat.is in
+    let by_left = c.opens_first-in-Cat.ensures.walked_first in
+    let by_right = c.opens_first-in-Cat-2.ensures.walked_first in
+    walked_two pair by_left by_right
+    (set_put none _ _ _ (omega (arith, c.opens_first-in-Cat-2.ensures.long, held.within)))
+    (first_at_two pair
+    (c.requires.known _ (omega (arith, (held_left held pair).0)))
+    (right_left held pair by_left by_right)
+    (right_right held pair by_left by_right)
+    c.first_two.ensures)
+
+pub returns-in-Cat-clause-walked_upto : goal.returns-in-Cat-clause-walked_upto
+returns-in-Cat-clause-walked_upto t c =
+    let held = c.requires.held in
+    let pair = pair_at _ _ c.in-Cat.is in
+    let by_left = c.opens_first-in-Cat.ensures.walked_upto in
+    let by_right = c.opens_first-in-Cat-2.ensures.walked_upto in
+    walked_two pair by_left by_right
+    (set_put _ _ _ _ (omega (arith, held.within, c.opens_first-in-Cat-2.array_long2)))
+    (end_at_two pair
+    (right_left held pair by_left by_right)
+    (right_right held pair by_left by_right)
+    c.end_two.ensures)
 
 pub opens_first-requires : goal.opens_first-requires
 opens_first-requires t c =
-    let part = held_part c.requires.held c.if-k-gt-ALT.true in
-    (omega (arith, c.decreases, part.0), (part.1, ((λ j h. c.requires.known j (omega (arith, part.0))), c.requires.sized)))
+    let part = held_part c.requires.held (any_at _ _ c.in-Branch.is) in
+    (omega (arith, c.decreases, part.0), (part.1, λ j h. c.requires.known j (omega (arith, part.0))))
 
-pub returns-then-k-gt-ALT-clause-walked_first : goal.returns-then-k-gt-ALT-clause-walked_first
-returns-then-k-gt-ALT-clause-walked_first t c =
-    let one = c.if-k-gt-ALT.true in
+pub returns-in-Branch-clause-walked_first : goal.returns-in-Branch-clause-walked_first
+returns-in-Branch-clause-walked_first t c =
+    let one = any_at _ _ c.in-Branch.is in
     let firsts = c.opens_first.ensures.walked_first in
-    walked_one one firsts (stored_put c.store-then-k-gt-ALT.ensures) (first_at_one one (right_one c.requires.held one firsts) c.load.ensures)
+    walked_one one firsts (set_put none _ _ _ (omega (arith, c.opens_first.ensures.long, c.requires.held.within))) (first_at_one one (right_one c.requires.held one firsts))
 
-pub returns-then-k-gt-ALT-clause-walked_upto : goal.returns-then-k-gt-ALT-clause-walked_upto
-returns-then-k-gt-ALT-clause-walked_upto t c =
+pub returns-in-Branch-clause-walked_upto : goal.returns-in-Branch-clause-walked_upto
+returns-in-Branch-clause-walked_upto t c =
     let held = c.requires.held in
-    let one = c.if-k-gt-ALT.true in
+    let one = any_at _ _ c.in-Branch.is in
     let ends = c.opens_first.ensures.walked_upto in
-    let kept = count_kept (held_part held one).1 ends in
-    walked_one one ends (set_put _ _ _ (omega (arith, kept, held.within, c.requires.sized.1))) (end_at_one one (right_one held one ends))
-
-pub opens_first-requires-2 : goal.opens_first-requires-2
-opens_first-requires-2 t c =
-    let left = held_left c.requires.held c.if-k-lt-CAT.false c.if-k-gt-ALT.false c.wide-left.ensures in
-    (omega (arith, c.decreases, left.0), (left.1, ((λ j h. c.requires.known j (omega (arith, left.0))), c.requires.sized)))
-
-pub opens_first-requires-3 : goal.opens_first-requires-3
-opens_first-requires-3 t c =
-    let left = held_left c.requires.held c.if-k-lt-CAT.false c.if-k-gt-ALT.false c.wide-left.ensures in
-    let right = held_right c.requires.held c.if-k-lt-CAT.false c.if-k-gt-ALT.false c.wide-left.ensures in
-    let firsts = count_kept left.1 c.opens_first-2.ensures.walked_first in
-    let ends = count_kept left.1 c.opens_first-2.ensures.walked_upto in (
-      omega (arith, c.decreases, right.0),
-      (right.1, ((λ j h. c.requires.known j (omega (arith, right.0))), (firsts ∙ c.requires.sized.0, ends ∙ c.requires.sized.1))),
-    )
-
-pub returns-clause-walked_first : goal.returns-clause-walked_first
-returns-clause-walked_first t c =
-    let held = c.requires.held in
-    let from_two = c.if-k-lt-CAT.false in
-    let to_three = c.if-k-gt-ALT.false in
-    let is = c.wide-left.ensures in
-    let by_left = c.opens_first-2.ensures.walked_first in
-    let by_right = c.opens_first-3.ensures.walked_first in
-    walked_two _ from_two to_three is by_left by_right
-    (stored_put c.store-2.ensures)
-    (first_at_two from_two to_three is
-    (c.requires.known _ (omega (arith, (held_left held from_two to_three is).0)))
-    (right_left _ held from_two to_three is by_left by_right)
-    (right_right _ held from_two to_three is by_left by_right)
-    c.load-2.ensures
-    c.load-3.ensures
-    c.first_two.ensures)
-
-pub returns-clause-walked_upto : goal.returns-clause-walked_upto
-returns-clause-walked_upto t c =
-    let held = c.requires.held in
-    let from_two = c.if-k-lt-CAT.false in
-    let to_three = c.if-k-gt-ALT.false in
-    let is = c.wide-left.ensures in
-    let by_left = c.opens_first-2.ensures.walked_upto in
-    let by_right = c.opens_first-3.ensures.walked_upto in
-    let kept_left = count_kept (held_left held from_two to_three is).1 by_left in
-    let kept_right = count_kept (held_right held from_two to_three is).1 by_right in
-    walked_two _ from_two to_three is by_left by_right
-    (set_put _ _ _ (omega (arith, kept_left, kept_right, held.within, c.requires.sized.1)))
-    (end_at_two from_two to_three is
-    (right_left _ held from_two to_three is by_left by_right)
-    (right_right _ held from_two to_three is by_left by_right)
-    c.end_two.ensures)
+    walked_one one ends (set_put _ _ _ _ (omega (arith, held.within, c.opens_first.array_long2))) (end_at_one one (right_one held one ends))

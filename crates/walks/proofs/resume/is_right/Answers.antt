@@ -1,18 +1,15 @@
--- `is_right`: a node with two parts has its left part below it, so that part stands in the arrays.
-use Rattle.std.proofs.Common.{arith}
+-- `is_right`: the left part stands below the node, and a node without two parts has no right one.
+use mathlib.Core.Logic.{⊎_elim}
+use Rattle.walks.proofs.Parts.{pair_at, two_at}
 use Rattle.walks.proofs.Resuming.{placed_below}
+use Rattle.walks.proofs.Spines.{right_test}
 use Rattle.walks.proofs.resume.is_right.Goals as goal
 
-pub offset_bounds-upto-left : goal.offset_bounds-upto-left
-offset_bounds-upto-left c =
-    omega (arith, (placed_below c.requires c.if-k-lt-CAT.false c.if-k-gt-ALT.false c.wide-left.ensures).1)
+pub bounds-opens-left : goal.bounds-opens-left
+bounds-opens-left c = (placed_below c.requires (pair_at _ _ c.in-Cat.is)).1
 
-pub bounds-upto-left : goal.bounds-upto-left
-bounds-upto-left c = (placed_below c.requires c.if-k-lt-CAT.false c.if-k-gt-ALT.false c.wide-left.ensures).1
+pub returns-in_default : goal.returns-in_default
+returns-in_default c = λ right. ⊎_elim (λ e. c.in_default.not-Cat _ e.1) (λ e. c.in_default.not-Alt _ e.1) (two_at _ _ right.two right.pair)
 
-pub returns-then-wide-j : goal.returns-then-wide-j
-returns-then-wide-j c =
-    record { two = c.if-k-lt-CAT.false; pair = c.if-k-gt-ALT.false; past = rw (← c.wide-left.ensures, ← c.wide.ensures) c.if-wide-j.true }
-
-pub returns : goal.returns
-returns c = λ x. omega (arith, rw (← c.wide-left.ensures, ← c.wide.ensures) at x.past, c.if-wide-j.false)
+pub returns-in-Cat : goal.returns-in-Cat
+returns-in-Cat c = right_test _ _ (pair_at _ _ c.in-Cat.is)

@@ -1,30 +1,35 @@
 -- `sets::class::Class::with_range` meets its contract. Assumes nothing.
-use mathlib.Core.Path.{sym, ap, ◌∙◌}
+use mathlib.Core.Path.{◌≡◌, sym, ap, ◌∙◌}
 use mathlib.Core.Bool.{Bool, ◌&&◌, ◌||◌, or-false, or_assoc}
+use Prim.Native.Nat.{ℕ, ◌+◌, ◌≤◌}
 use native.Mathlib.Omega.{arith}
 use lib.Dec.{eqb, leb, ltb}
 use Rattle.sets.specs.Classes.{among}
 use Rattle.bits.proofs.Ranges.{range_more, range_end, range_none}
 use Rattle.sets.proofs.class.Class.with_range.Goals as goal
 
+-- a class with b more, where it has those from c on that are below b
+more : (c b q : ℕ) (s r w : Bool) → c ≤ b → w ≡ (r || eqb q b) → r ≡ (s || (leb c q && ltb q b)) → w ≡ (s || (leb c q && ltb q (b + 1)))
+more c b q s r w l e i =
+    e ∙ ap (λ (t : Bool). t || eqb q b) i ∙ or_assoc s (leb c q && ltb q b) (eqb q b) ∙ ap (λ (t : Bool). s || t) (sym (range_more c b q l))
+
 pub loop-b-init : goal.loop-b-init
 loop-b-init c =
     let a = c.args in
-    (omega arith, omega arith, λ q. sym (ap (λ (t : Bool). among a.self q || t) (range_none a.c q) ∙ or-false (among a.self q)))
+    (omega arith, λ q. sym (ap (λ (t : Bool). among a.self q || t) (range_none a.c q) ∙ or-false (among a.self q)))
 
 pub loop-b-preserved : goal.loop-b-preserved
-loop-b-preserved c =
-    let a = c.args in
-    let l = c.loop-b in (
-      omega arith,
-      omega arith,
-      λ q.
-          c.with-r.ensures q ∙ ap (λ (t : Bool). t || eqb q l.b) (l.invariant.2 q) ∙ or_assoc (among a.self q) (leb a.c q && ltb q l.b) (eqb q l.b)
-          ∙ ap (λ (t : Bool). among a.self q || t) (sym (range_more a.c l.b q l.invariant.0)),
-    )
+loop-b-preserved c = (omega arith, λ q. more c.args.c c.loop-b.b q _ _ _ (omega arith) (c.with-r.ensures q) (c.loop-b.invariant.1 q))
 
 pub returns : goal.returns
 returns c q =
     let a = c.args in
     let l = c.loop-b in
-    l.invariant.2 q ∙ ap (λ (t : Bool). among a.self q || t) (range_end a.c a.d l.b q (omega arith) l.invariant.1)
+    l.invariant.1 q ∙ ap (λ (t : Bool). among a.self q || t) (range_end a.c a.d l.b q (omega arith) l.invariant.0)
+
+pub returns-2 : goal.returns-2
+returns-2 c q =
+    let a = c.args in
+    let l = c.loop-b in
+    more a.c l.b q _ _ _ (omega arith) (c.with-r.ensures q) (l.invariant.1 q)
+    ∙ ap (λ (t : Bool). among a.self q || t) (range_end a.c a.d (l.b + 1) q (omega arith) (omega arith))

@@ -3,6 +3,6 @@ use Rattle.sets.specs.Members.{has}
 use Rattle.bits.proofs.Bits.{bit_none}
 use Rattle.sets.proofs.set.Set.empty.Goals as goal
 
-pub returns : goal.returns
+pub returns-clause-members : goal.returns-clause-members
 unfolding has
-returns c = bit_none 64
+returns-clause-members c = bit_none 64

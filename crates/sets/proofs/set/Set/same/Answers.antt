@@ -1,7 +1,6 @@
 -- `sets::set::Set::same` meets its contract. Assumes nothing.
-use mathlib.Core.Path.{refl, ap}
-use mathlib.Core.Bool.{false≢true}
-use Prim.Native.Nat.{ℕ}
+use Rattle.std.proofs.Common.{ℕ, sym, ap, ◌∙◌}
+use borrow.Author.Tests.{eqb-true, eq-eqb}
 use Rattle.bits.specs.Bit.{bit}
 use Rattle.sets.specs.declared.set.Set.{Set}
 use Rattle.sets.specs.Members.{limit, has}
@@ -11,11 +10,9 @@ use Rattle.sets.proofs.set.Set.same.Goals as goal
 abbrev bits_of : Set → ℕ
 bits_of s = s.bits
 
-pub returns-then-self-other : goal.returns-then-self-other
-unfolding has
-returns-then-self-other c = (λ h q. ap (λ (b : ℕ). bit limit b q) c.if-self-other.true, λ a. refl)
-
 pub returns : goal.returns
+unfolding has
 returns c =
     let good = c.well_formed in
-    (λ h. absurd (false≢true h), λ a. absurd (c.if-self-other.false (ap bits_of (same_set good.0 good.1.0 a))))
+    let same = c.eq.ensures in
+    (λ h q. ap (λ (b : ℕ). bit limit b q) (eqb-true _ _ (sym same ∙ h)), λ a. same ∙ eq-eqb _ _ (ap bits_of (same_set good.0 good.1.0 a)))

@@ -1,0 +1,2 @@
+-- Laws of rows of nodes.
+pub mod NodeLaws

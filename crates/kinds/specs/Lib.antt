@@ -1,0 +1,2 @@
+-- What a node is in the numbers of `meaning`.
+pub mod Nodes
