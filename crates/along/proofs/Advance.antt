@@ -24,7 +24,7 @@ use Rattle.walks.specs.Steps.{cursor, noted, step_of, Wrote}
 use Rattle.walks.proofs.Written.{wrote_put, wrote_cursor}
 use Rattle.along.specs.declared.links.Links.{Links}
 use Rattle.along.specs.declared.stand.Stand.{Stand}
-use Rattle.along.specs.declared.walk.Walked.{Walked}
+use Rattle.along.specs.declared.walk.Tree.{Tree}
 use Rattle.along.specs.Along.{Along, Came}
 use Rattle.along.specs.Glide.{Glided, Glides, Guided}
 use Rattle.along.specs.Links.{Kept, Linked, Stock, Went}
@@ -150,7 +150,7 @@ module _ {e : Re} {pattern : ReadPattern} {txt cells : List ℕ} {root : ℕ} (W
         }
 
   -- and the end
-  pub walk_end : {t₀ t₁ t : List ℕ} {s₀ s : Step} {i : ℕ} {r : Walked} → Beyond t₀ t₁ (cursor s₀) → Came e txt t₁ t s₀ s 0 i
+  pub walk_end : {t₀ t₁ t : List ℕ} {s₀ s : Step} {i : ℕ} {r : Tree} → Beyond t₀ t₁ (cursor s₀) → Came e txt t₁ t s₀ s 0 i
       → i ≡ length txt → r.length ≡ cursor s → r.other ≡ other_of_step s → Writes e txt t₀ t r
   walk_end {t₀ = t₀} {t = t} {s₀} {s} B C z l o =
       let b : Beyond t₀ t (cursor s) = beyond_less _ (beyond_then _ B C.beyond (omega (arith, C.later))) (omega arith) in

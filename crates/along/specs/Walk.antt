@@ -12,7 +12,7 @@ use Rattle.positions.specs.Theorem.{found, first_row, other_tree}
 use Rattle.sets.specs.Members.{has, held, limit, row}
 use Rattle.walks.specs.declared.step.Step.{Step}
 use Rattle.along.specs.declared.stand.Stand.{Stand}
-use Rattle.along.specs.declared.walk.Walked.{Walked}
+use Rattle.along.specs.declared.walk.Tree.{Tree}
 use Rattle.along.specs.Along.{Goes}
 use Rattle.along.specs.Stand.{stood}
 use Rattle.along.specs.Links.{Linked}
@@ -45,11 +45,11 @@ pub record Advanced (pattern : ReadPattern) (root : ℕ) (text cells t t' : List
   pub goes : (e : Re) → Walkable e pattern root text cells → Goes e text t t' (stood s) r s.read (s.read + 1)
 
 -- the length of the first tree's row, and whether there is another tree
-pub record Measures (e : Re) (text : List ℕ) (r : Walked) : Type 0 where
+pub record Measures (e : Re) (text : List ℕ) (r : Tree) : Type 0 where
   pub long : r.length ≡ length (first_row e text)
   pub other : r.other ≡ other_tree e text
 
 -- the same, and the row is written as far as it fits
-pub record Writes (e : Re) (text t t' : List ℕ) (r : Walked) : Type 0 where
+pub record Writes (e : Re) (text t t' : List ℕ) (r : Tree) : Type 0 where
   pub row : t' ≡ sets t 0 (first_row e text)
   pub measures : Measures e text r

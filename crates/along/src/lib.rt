@@ -1,6 +1,7 @@
 // The walk along a text, which writes the row of its first tree.
 #![tactic(auto)]
 
+pub mod chart;
 pub mod glide;
 pub mod lay;
 pub mod links;

@@ -6,13 +6,11 @@ ghost use Rattle.sets.specs.Members.{limit, rows};
 ghost use Rattle.walks.specs.Steps.{cursor};
 ghost use Rattle.along.specs.Links.{ChartedBy, Keeps, Linked, PlaceFor, Stock, Went, pool_limit, position_of};
 
+use crate::chart::Chart;
 use crate::lay::copy;
 use crate::stand::Stand;
-use kinds::ReadPattern;
 use sets::set::{LIMIT, Set};
-use walks::resume::resume;
 use walks::step::Step;
-use walks::tables::Tables;
 
 // How many tokens of the pool may be used: from each of them eight can be read at once.
 pub const POOL: usize = 1016;
@@ -89,34 +87,26 @@ impl Links {
 
     // Goes on from position q to the goal, as `resume` does from the root, and keeps the way for the positions of the goal that may follow q:
     // which marks are written depends on them alone. Where the pool has no room for its row, all is forgotten.
-    pub fn onward(
-        &mut self,
-        pattern: &ReadPattern,
-        tables: &Tables,
-        root: usize,
-        q: usize,
-        goal: Set,
-        tree: &mut [u16],
-        at: usize,
-    ) -> Step
-        requires linked { Linked pattern.now root q at }
-        requires charted { ChartedBy tables.now pattern.now root }
-        requires stock { Stock pattern.now root self.old }
-        ensures went { Went pattern.now root q goal false tree.old tree.new at result }
-        ensures stocked { Stock pattern.now root self.new }
+    pub fn onward(&mut self, chart: Chart, q: usize, goal: Set, tree: &mut [u16], at: usize) -> Step
+        requires linked { Linked chart.pattern.now chart.root q at }
+        requires charted { ChartedBy chart.tables.now chart.pattern.now chart.root }
+        requires stock { Stock chart.pattern.now chart.root self.old }
+        ensures went { Went chart.entry.pattern.now chart.entry.root q goal false tree.old tree.new at result }
+        ensures stocked { Stock chart.entry.pattern.now chart.entry.root self.new }
     {
         let from = self.used;
-        let nodes = &tables.nodes;
-        let u = resume(pattern, nodes, root, q, goal, false, &mut self.pool, from);
+        let u = chart
+            .guide()
+            .resume(chart.root, q, goal, false, &mut self.pool, from);
         let end = Stand::after(u, 0).at;
         if POOL < end {
             self.keys.fill(Set::empty());
             self.used = 0;
-            return resume(pattern, nodes, root, q, goal, false, tree, at);
+            return chart.guide().resume(chart.root, q, goal, false, tree, at);
         }
         copy(&self.pool, from, end - from, tree, at);
         self.used = end;
-        let near = tables.follow[q].meet(goal);
+        let near = chart.tables.follow[q].meet(goal);
         self.keep(kept_at(q, goal), near, from, u, at)
     }
 }

@@ -5,6 +5,7 @@
 use std::io;
 use tree::first_tree::first_tree;
 use tree::outcome::{Outcome, flag, number, value};
+use tree::room::CELLS;
 
 fn show(rt: &impl Print, got: Outcome) -> io::Result<()> {
     println!(rt; "ANSWER {} {} {}", number(got), value(got), flag(got))
@@ -18,7 +19,7 @@ fn main(rt: HostRuntime) -> io::Result<()> {
     let parts =
         b"a*()()()()()()()()()()()()()()()()()()()()()()()()()()()()()()()()()()()()()()()()()()()()()()()()()()()()()()()()()()()()()()()()()()()()()()()()()()()()()()()()()()()()()()()()()()()()()()()()()()()()()()()()()()()()()()()()()()()()()()()()()()()()()()()()()()()()()()()()()()()()()()()()()()()()()()()()()()()()()()()()()()()()()()()()()()()()()()()()()()()()()()()()()()()()()()()()()()()()()()()()()()()()()()()()()()()()()()()()()()()()()()()()()()()()()()()()()()()()()()()()()()()()()()()()()()()()()()()";
     let text = [b'a'; 4096];
-    let mut cells = [0u64; 4097];
+    let mut cells = [0u64; CELLS];
     let mut room = [0u16; 12414];
     show(&rt, first_tree(letters, &text, &mut cells, &mut room))?;
     show(&rt, first_tree(groups, &text, &mut cells, &mut room))?;

@@ -1,2 +1,3 @@
 -- Laws of rows of nodes.
 pub mod NodeLaws
+pub mod WordLaws

@@ -3,6 +3,9 @@
 
 ghost use Rattle.std.specs.Prelude.{◌≡◌, ◌≤◌, replicate};
 ghost use Rattle.kinds.specs.Nodes.{kind_of, arg_of, kinds_of, args_of};
+ghost use Rattle.kinds.specs.Words.{no_byte};
+
+use sets::class::Class;
 
 // A node of a read pattern: a node without parts is an eps or a pos, one with two parts a cat or an alt; the others have one part. Beside it stands
 // a number: the position, the node of the left part, or the mark. The other part is the node before.
@@ -34,29 +37,29 @@ impl Node {
     }
 }
 
-// The class of position q is class[4 * q] to class[4 * q + 3].
+// The class of position q is class[q].
 #[derive(Clone, Copy)]
 pub struct ReadPattern {
     pub node: [Node; 1024],
-    pub class: [u64; 256],
+    pub class: [Class; 64],
     pub nodes: usize,
     pub positions: usize,
     pub marks: usize,
 }
 
 impl ReadPattern {
-    // Rows of zeros, and no nodes.
+    // Nodes that are eps, classes with no byte, and none of them in use.
     pub fn blank() -> ReadPattern
         ensures kinds { kinds_of result.node ≡ replicate 1024 0 }
         ensures args { args_of result.node ≡ replicate 1024 0 }
-        ensures classes { result.class ≡ replicate 256 0 }
+        ensures classes { result.class ≡ replicate 64 no_byte }
         ensures nodes { result.nodes ≡ 0 }
         ensures positions { result.positions ≡ 0 }
         ensures marks { result.marks ≡ 0 }
     {
         ReadPattern {
             node: [Node::Eps; 1024],
-            class: [0; 256],
+            class: [Class::none(); 64],
             nodes: 0,
             positions: 0,
             marks: 0,

@@ -13,7 +13,7 @@ use Rattle.meaning.specs.Promise.{Answered, Judged}
 use Rattle.meaning.specs.Desk.{Desk, desk_lines, desk_cells, desk_tokens, input_limit, pattern_in, text_in}
 use Rattle.std.specs.Prelude.{Ok, Err}
 use Rattle.tree.specs.Outcome.{Outcome, number_of, value_of, flag_of}
-use Rattle.tree.specs.declared.outcome.Tree.{Tree}
+use Rattle.along.specs.declared.walk.Tree.{Tree}
 use Rattle.tree.proofs.Answers.{refusal_some}
 use Rattle.grammar.specs.ReadPromise.{refused_range}
 use Rattle.laws.specs.Promises.{desk_one}

@@ -6,11 +6,10 @@ use crate::parts::split;
 use crate::print::Writer;
 use tree::first_tree::first_tree;
 use tree::outcome::{flag, number, value};
+use tree::room::CELLS;
 
-// Bytes taken, cells and tokens lent: `input_limit`, `desk_cells` and `desk_tokens` of meaning's Desk.
+// Bytes taken and tokens lent: `input_limit` and `desk_tokens` of meaning's Desk, which lends as many cells as every text can do with.
 pub const TAKEN: usize = 8192;
-
-const CELLS: usize = 4097;
 
 const TOKENS: usize = 8192;
 

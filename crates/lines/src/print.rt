@@ -4,6 +4,8 @@ ghost use Rattle.meaning.specs.Desk.{digits, spaced, token, tokens, answer_line,
 ghost use Rattle.lines.specs.Wrote.{far};
 ghost use Rattle.lines.specs.Puts.{Puts};
 
+use walks::step::put;
+
 // Writes a row from its front on: the row, and how many bytes were put.
 #[derive(Drop)]
 pub struct Writer<'a> {
@@ -20,6 +22,15 @@ impl<'a> Writer<'a> {
         Writer { out, at: 0 }
     }
 
+    // Writes from a place on, as if so many bytes had been put.
+    pub fn starting_at(out: &'a mut [u8], at: usize) -> Writer<'a>
+        ensures same { result.out.ghost_name ≡ out.entry.ghost_name }
+        ensures row { result.out.now ≡ out.old }
+        ensures place { result.at ≡ at }
+    {
+        Writer { out, at }
+    }
+
     // How many bytes were put.
     pub fn len(&self) -> usize
         ensures { result ≡ self.now.at }
@@ -32,10 +43,7 @@ impl<'a> Writer<'a> {
         requires { self.old.at + 1 ≤ far }
         ensures { Puts self.old (b ∷ []) self.new }
     {
-        if self.at < self.out.len() {
-            self.out[self.at] = b;
-        }
-        self.at += 1;
+        self.at = put(self.out, self.at, b);
     }
 
     // A number in decimal.
@@ -70,7 +78,7 @@ impl<'a> Writer<'a> {
     }
 
     // A space, a letter and a number.
-    fn lettered(&mut self, letter: u8, n: usize)
+    pub fn lettered(&mut self, letter: u8, n: usize)
         requires { self.old.at + 22 ≤ far }
         ensures { Puts self.old (32 ∷ letter ∷ digits 20 n) self.new }
     {

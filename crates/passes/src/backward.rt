@@ -30,7 +30,7 @@ fn recall(mask: &[Set], pre: &[Set], memo: &mut [Recent; 256], b: u8, next: Set)
     ensures { Recalled mask.now pre.now b next result memo.new }
 {
     let row = b as usize;
-    let last = memo[row];
+    let last = &memo[row];
     if last.next.same(next) {
         return last.found;
     }

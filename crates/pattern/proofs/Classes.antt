@@ -15,6 +15,8 @@ use Rattle.std.specs.Result.{result_ok}
 use Rattle.sets.specs.declared.class.Class.{Class}
 use Rattle.sets.specs.Classes.{among, ClassFits}
 use Rattle.sets.proofs.ClassLaws.{class_word}
+use Rattle.kinds.specs.Words.{words_of}
+use Rattle.kinds.proofs.WordLaws.{four_words, words_long, words_set, set_fours}
 use Rattle.meaning.specs.Expression.{pos}
 use Rattle.meaning.specs.Grammar.{range, either}
 use Rattle.meaning.specs.ReadPattern.{word, words}
@@ -66,8 +68,8 @@ pub class_letter : (s : List ℕ) (i : ℕ) (r : Result Taken Misplaced) → i <
 class_letter s i (Ok t) l e h = record { test = h.test; done = atom_class s i l e h.done; says = h.says; on = record { on = omega (arith, h.on.on); inside = h.on.inside } }
 class_letter s i (Err m) l e h = atom_class_bad s i l e h
 
-pub letter_kept : {s : List ℕ} {i j n : ℕ} {k : Class} {ws ws' : List ℕ} → LetterTo PositionDone s i j k → Keeps n k ws ws' → KeptTo s i j n ws ws'
-letter_kept h w = record { test = h.test; done = h.done; word = w h.test h.says; on = h.on }
+pub letter_kept : {s : List ℕ} {i j n : ℕ} {k : Class} {l l' : List Class} → LetterTo PositionDone s i j k → Keeps n k l l' → KeptTo s i j n l l'
+letter_kept h w = record { test = h.test; done = h.done; word = w.word h.test h.says; fours = w.fours; on = h.on }
 
 -- a letter that was read, and none
 pub letter_some : {s : List ℕ} {i : ℕ} {t : Taken} (r : Result Taken Misplaced) → Lettered s i r → Some t ≡ result_ok r → LetterTo PositionDone s i t.next t.class
@@ -85,17 +87,15 @@ pub sets_out : (t v : List ℕ) (i : ℕ) → length t ≤ i → sets t i v ≡ 
 sets_out t [] i l = refl
 sets_out t (x ∷ v) i l = rw (set_out t i x l) (sets_out t v (suc i) (omega arith))
 
-module _ (t : List ℕ) (n : ℕ) (k : Class) (f : ℕ → Bool) where
-  pub kept : ClassFits k → Tests k f
-      → set (set (set (set t (4 * n) (get_or k.words 0 0)) (4 * n + 1) (get_or k.words 1 0)) (4 * n + 2) (get_or k.words 2 0)) (4 * n + 3) (get_or k.words 3 0)
-      ≡ sets t (4 * n) (words (pos f))
+module _ (l : List Class) (n : ℕ) (k : Class) where
+  pub kept : ClassFits k → Keeps n k l (set l n (record { words = four_words k }))
   unfolding words
-  kept h e =
-      let w : (i : ℕ) → i < 4 → get_or k.words i 0 ≡ word f i = class_word k f h e in
-      let a : 4 * n + 1 ≡ suc (4 * n) = omega arith in
-      let b : 4 * n + 2 ≡ suc (suc (4 * n)) = omega arith in
-      let c : 4 * n + 3 ≡ suc (suc (suc (4 * n))) = omega arith in
-      rw (a, b, c, w 0 (omega arith), w 1 (omega arith), w 2 (omega arith), w 3 (omega arith))
+  kept h = record { word = put; fours = set_fours l n (record { words = four_words k }) refl }
+    where
+      put : (f : ℕ → Bool) → Tests k f → words_of (set l n (record { words = four_words k })) ≡ sets (words_of l) (4 * n) (words (pos f))
+      put f e =
+          let w : (i : ℕ) → i < 4 → get_or k.words i 0 ≡ word f i = class_word k f h e in
+          words_set l n (record { words = four_words k }) ∙ rw (w 0 (omega arith), w 1 (omega arith), w 2 (omega arith), w 3 (omega arith)) refl
 
-pub unkept : (t : List ℕ) (n : ℕ) (f : ℕ → Bool) → length t ≡ 256 → 64 ≤ n → t ≡ sets t (4 * n) (words (pos f))
-unkept t n f h l = sym (sets_out t (words (pos f)) (4 * n) (omega arith))
+  pub unkept : length l ≤ n → Keeps n k l l
+  unkept h = record { word = λ f _. sym (sets_out (words_of l) (words (pos f)) (4 * n) (omega (arith, words_long l))); fours = λ y. y }

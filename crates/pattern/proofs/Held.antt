@@ -20,6 +20,7 @@ use Rattle.pattern.specs.declared.Refusal.{Refusal}
 use Rattle.pattern.specs.declared.Refusal.TheVariants.{TooLong, NoPattern, TooDeep, ManyPositions, ManyMarks}
 use Rattle.kinds.specs.declared.ReadPattern.{ReadPattern}
 use Rattle.kinds.specs.Nodes.{kinds_of, args_of}
+use Rattle.kinds.specs.Words.{words_of}
 
 -- ---- an accepted pattern
 
@@ -31,7 +32,7 @@ pub record Holding (P : ReadPattern) (e : Re) : Type 0 where
   pub marks_are : P.marks ≡ marks e
   pub few_nodes : P.nodes < 1024
   -- four words for each position: its bytes
-  pub classes : Stands (words e) P.class 0
+  pub classes : Stands (words e) (words_of P.class) 0
 
 pub holding : {pat : List ℕ} {e : Re} (P : ReadPattern) → Accepted pat e → pattern_parts P ≡ read_pattern e → Holding P e
 unfolding read_pattern
@@ -83,16 +84,16 @@ refused_part (accepted a) y z = absurd (y refl)
 
 module _ {pat : List ℕ} {P : ReadPattern} where
   pub held : {filled : Result ⊤ Refusal} {done : ⊤} → Fills pat filled P → filled ≡ Ok done → Held pat P
-  held h e = accepted_part P (rw e at h.answers) refl refl
+  held h e = accepted_part P (rw e at h.answers).0 refl refl
 
   pub too_long : {filled : Result ⊤ Refusal} → Fills pat filled P → filled ≡ Err TooLong → pattern_limit < length pat
-  too_long h e = long_part (rw e at h.answers) refl
+  too_long h e = long_part (rw e at h.answers).0 refl
 
   -- a refusal, of a pattern that is not too long
   pub refusal : {filled : Result ⊤ Refusal} (r : Refusal) → Fills pat filled P → filled ≡ Err r → (refusal_number r ≡ 1 → ⊥)
       → Refused pat (refusal_number r) (refusal_value r)
-  refusal r h e x = refused_part (rw e at h.answers) (some_number r) x
+  refusal r h e x = refused_part (rw e at h.answers).0 (some_number r) x
 
   pub refusal_of_short : {filled : Result ⊤ Refusal} (r : Refusal) → Fills pat filled P → filled ≡ Err r → length pat ≤ pattern_limit
       → Refused pat (refusal_number r) (refusal_value r)
-  refusal_of_short r h e l = refusal r h e (λ z. omega (arith, long_part (rw e at h.answers) z, l))
+  refusal_of_short r h e l = refusal r h e (λ z. omega (arith, long_part (rw e at h.answers).0 z, l))

@@ -6,6 +6,7 @@ use native.Mathlib.Omega.{arith}
 use lib.ListN.{length, get_or}
 use Rattle.std.specs.declared.option.Option.TheVariants.{Some, None}
 use Rattle.meaning.specs.Expression.{Re, eps, pos, cat, alt, branch}
+use Rattle.sets.specs.declared.class.Class.{Class}
 use Rattle.kinds.specs.declared.Node.{Node}
 use Rattle.kinds.specs.Nodes.{kind_of, arg_of}
 use Rattle.grammar.specs.Machine.{Sign, is_star, is_plus, is_opt}
@@ -13,7 +14,7 @@ use Rattle.grammar.specs.ByteTests as tests
 use Rattle.grammar.specs.Contract.{AtomDone, ItemDone, BranchDone, FrontsDone, ListDone, ItemFails, ListFails}
 use Rattle.grammar.specs.Contract.{atom_unit, atom_group, item_signed, item_bare, branch_one, branch_more, fronts_first, fronts_more, list_lone, list_several}
 use Rattle.grammar.specs.Contract.{atom_deep, atom_group_fails, atom_group_open, branch_rest_fails, list_next_fails}
-use Rattle.pattern.specs.Stores.{Stores, with_words, Put, Became, Wrote, Moved, Within}
+use Rattle.pattern.specs.Stores.{Stores, with_classes, Put, Became, Wrote, Moved, Within}
 use Rattle.pattern.specs.Letters.{KeptTo}
 use Rattle.pattern.specs.Parts.{ByteAt, Goes, End, of_text, by_bar, by_close, Signed, star_at, plus_at, opt_at, ReadTo, FrontsAt}
 use Rattle.pattern.specs.declared.nodes.Cursor.{Cursor}
@@ -49,15 +50,15 @@ module _ {s : List ℕ} {left : ℕ} {c f : Cursor} {S S' : Stores} where
     wrote = wrote_eps b p;
   }
 
-  pub letter_read : {next : ℕ} {ws : List ℕ} → KeptTo s c.at next c.positions S.word ws → Became f next (c.used + 1) (c.positions + 1) c.marks
-      → Put c.used 1 c.positions (with_words S ws) S' → ReadTo 1 AtomDone s left c f S S'
+  pub letter_read : {next : ℕ} {l : List Class} → KeptTo s c.at next c.positions S.class l → Became f next (c.used + 1) (c.positions + 1) c.marks
+      → Put c.used 1 c.positions (with_classes S l) S' → ReadTo 1 AtomDone s left c f S S'
   letter_read h b p = record {
     reading = pos h.test;
     deep = 0;
     shallow = omega arith;
     done = there AtomDone b.at h.done;
     moved = omega (arith, b, h.on);
-    wrote = wrote_pos h.test b p h.word;
+    wrote = wrote_pos h.test b p h.word h.fours;
   }
 
 pub group_read : {s : List ℕ} {left n : ℕ} {c c' d f : Cursor} {S S' : Stores} → left ≡ n + 1 → ByteAt s c.at 40

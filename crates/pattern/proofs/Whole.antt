@@ -20,6 +20,8 @@ use Rattle.pattern.specs.Parts.{ReadTo}
 use Rattle.pattern.specs.declared.nodes.Cursor.{Cursor}
 use Rattle.kinds.specs.declared.ReadPattern.{ReadPattern}
 use Rattle.kinds.specs.Nodes.{kinds_of, args_of}
+use Rattle.kinds.specs.Words.{words_of, Fours}
+use Rattle.kinds.proofs.WordLaws.{blank_words, blank_fours}
 use Rattle.pattern.proofs.Rows.{sets_stands, length_bare_args}
 
 -- ---- rows of zeros, written from the front on
@@ -62,7 +64,8 @@ pub record Whole (s : List ℕ) (d : Cursor) (S : Stores) : Type 0 where
   pub marked : d.marks ≡ marks reading
   pub kind : S.kind ≡ sets (zeros 1024) 0 (kinds reading)
   pub arg : S.arg ≡ sets (zeros 1024) 0 (bare_args 0 0 reading)
-  pub word : S.word ≡ sets (zeros 256) 0 (words reading)
+  pub word : words_of S.class ≡ sets (zeros 256) 0 (words reading)
+  pub fours : Fours S.class
 
 pub whole : {s : List ℕ} {P : ReadPattern} {c d : Cursor} {S : Stores} → Blank P → Became c 0 0 0 0
     → ReadTo 1 ListDone s 64 c d (stores P) S → Whole s d S
@@ -78,7 +81,8 @@ whole z b h = record {
   marked = omega (arith, b, h.wrote.marked);
   kind = rw (z.kinds, b.used) at h.wrote.kind;
   arg = rw (z.args, b.used, b.places) at h.wrote.arg;
-  word = rw (z.classes, b.places) at h.wrote.word;
+  word = rw (z.classes, b.places, blank_words 64) at h.wrote.word;
+  fours = h.wrote.fours (rw z.classes (blank_fours 64));
 }
 
 -- ---- refusals
@@ -122,7 +126,7 @@ module _ {s : List ℕ} (short : length s ≤ 512) where
         pub numberable : d.marks ≤ 64 → Numberable S.kind S.arg (d.used - 1) 0
         numberable l = record { e = w.reading; u = 0; p = 0; lies = lies; few = omega (arith, l, w.marked) }
 
-        pub read_whole : (r : ReadPattern) {n : ℕ} → (l : d.marks ≤ 64) → kinds_of r.node ≡ S.kind → Numbers S.kind S.arg (args_of r.node) (d.used - 1) 0 n → r.class ≡ S.word
+        pub read_whole : (r : ReadPattern) {n : ℕ} → (l : d.marks ≤ 64) → kinds_of r.node ≡ S.kind → Numbers S.kind S.arg (args_of r.node) (d.used - 1) 0 n → r.class ≡ S.class
             → r.nodes ≡ d.used → r.positions ≡ d.positions → r.marks ≡ d.marks → Read s 0 0 (pattern_parts r)
         unfolding read_pattern
         read_whole r l k a c x y z = rw same (accepted all)
@@ -150,7 +154,7 @@ module _ {s : List ℕ} (short : length s ≤ 512) where
                 rw (
                   k ∙ w.kind ∙ written_once 1024 (kinds w.reading) (omega (arith, few_nodes, kinds_length w.reading)),
                   numbered,
-                  c ∙ w.word ∙ written_once 256 (words w.reading) (omega (arith, few_positions, w.places, length_words w.reading)),
+                  ap words_of c ∙ w.word ∙ written_once 256 (words w.reading) (omega (arith, few_positions, w.places, length_words w.reading)),
                   x ∙ w.used,
                   y ∙ w.places,
                   z ∙ w.marked,

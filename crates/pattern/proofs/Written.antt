@@ -6,10 +6,12 @@ use Prim.Native.Nat.{ℕ, suc, ◌+◌, ◌-◌, ◌*◌}
 use native.Mathlib.Omega.{arith}
 use lib.ListN.{set}
 use lib.Seq.{sets}
+use Rattle.sets.specs.declared.class.Class.{Class}
+use Rattle.kinds.specs.Words.{words_of, Fours}
 use Rattle.meaning.specs.Expression.{Re, eps, pos, cat, alt, branch, star, plus, opt, size, marks}
 use Rattle.meaning.specs.ReadPattern.{nodes, kinds, node_of, args, words}
 use Rattle.grammar.specs.Holds.{kinds_length, length_words}
-use Rattle.pattern.specs.Stores.{bare_args, Stores, with_words, Put, Became, Wrote}
+use Rattle.pattern.specs.Stores.{bare_args, Stores, with_classes, Put, Became, Wrote}
 use Rattle.pattern.specs.declared.nodes.Cursor.{Cursor}
 use Rattle.pattern.proofs.Rows.{writes, length_bare_args}
 
@@ -64,12 +66,21 @@ both_alt x y = record { node = refl; place = refl; mark = refl; kind = refl; bar
 module _ {c f : Cursor} {S S' : Stores} {i : ℕ} where
   pub wrote_eps : Became f i (c.used + 1) c.positions c.marks → Put c.used 0 0 S S' → Wrote c f S S' eps
   unfolding nodes size marks kinds bare_args words
-  wrote_eps b p = record { used = b.used; places = omega (arith, b.places); marked = omega (arith, b.marked); kind = p.kind; arg = p.arg; word = p.word }
+  wrote_eps b p = record { used = b.used; places = omega (arith, b.places); marked = omega (arith, b.marked); kind = p.kind; arg = p.arg; word = ap words_of p.class; fours = λ h. rw p.class h }
 
-  pub wrote_pos : {ws : List ℕ} (g : ℕ → Bool) → Became f i (c.used + 1) (c.positions + 1) c.marks
-      → Put c.used 1 c.positions (with_words S ws) S' → ws ≡ sets S.word (4 * c.positions) (words (pos g)) → Wrote c f S S' (pos g)
+  pub wrote_pos : {l : List Class} (g : ℕ → Bool) → Became f i (c.used + 1) (c.positions + 1) c.marks
+      → Put c.used 1 c.positions (with_classes S l) S' → words_of l ≡ sets (words_of S.class) (4 * c.positions) (words (pos g))
+      → (Fours S.class → Fours l) → Wrote c f S S' (pos g)
   unfolding nodes size marks kinds bare_args
-  wrote_pos g b p w = record { used = b.used; places = b.places; marked = omega (arith, b.marked); kind = p.kind; arg = p.arg; word = p.word ∙ w }
+  wrote_pos g b p w y = record {
+    used = b.used;
+    places = b.places;
+    marked = omega (arith, b.marked);
+    kind = p.kind;
+    arg = p.arg;
+    word = ap words_of p.class ∙ w;
+    fours = λ h. rw p.class (y h);
+  }
 
 pub wrote_over : {k : ℕ} {x e : Re} {c d f : Cursor} {S S₁ S' : Stores} {i : ℕ} → Over k x e → Wrote c d S S₁ x
     → Became f i (d.used + 1) d.positions (d.marks + 1) → Put d.used k 0 S₁ S' → Wrote c f S S' e
@@ -82,7 +93,8 @@ wrote_over {k} {x} {e} {c} {d} {f} {S} {S₁} o w b p = record {
       let row = bare_args c.used c.positions x in
       rw (o.bare c.used c.positions)
       (writes S.arg c.used row (0 ∷ []) w.arg p.arg (omega (arith, w.used, length_bare_args c.used c.positions x)));
-  word = rw o.word (p.word ∙ w.word);
+  word = rw o.word (ap words_of p.class ∙ w.word);
+  fours = λ h. rw p.class (w.fours h);
 }
 
 pub wrote_both : {k : ℕ} {x y e : Re} {c d m f : Cursor} {S S₁ S₂ S' : Stores} {i : ℕ} → Both k x y e → Wrote c d S S₁ x → Wrote d m S₁ S₂ y
@@ -105,7 +117,8 @@ wrote_both {k} {x} {y} {e} {c} {d} {m} {f} {S} {S₁} {S₂} {S'} o w v b p = re
       (w.used ∙ ap (λ (n : ℕ). c.used + n) (sym (length_bare_args c.used c.positions x))));
   word =
       rw o.word
-      (writes S.word (4 * c.positions) (words x) (words y) w.word (p.word ∙ v.word) (omega (arith, w.places, length_words x)));
+      (writes (words_of S.class) (4 * c.positions) (words x) (words y) w.word (ap words_of p.class ∙ v.word) (omega (arith, w.places, length_words x)));
+  fours = λ h. rw p.class (v.fours (w.fours h));
 }
   where
     right : List ℕ
@@ -121,6 +134,7 @@ wrote_from b w = record {
   kind = rw b.used at w.kind;
   arg = rw (b.used, b.places) at w.arg;
   word = rw b.places at w.word;
+  fours = w.fours;
 }
 
 pub wrote_to : {c d f : Cursor} {S S' : Stores} {e : Re} {i : ℕ} → Became f i d.used d.positions d.marks → Wrote c d S S' e → Wrote c f S S' e
@@ -131,4 +145,5 @@ wrote_to b w = record {
   kind = w.kind;
   arg = w.arg;
   word = w.word;
+  fours = w.fours;
 }

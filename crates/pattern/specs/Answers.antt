@@ -6,6 +6,7 @@ use Rattle.meaning.specs.ReadPattern as meaning
 use Rattle.meaning.specs.Promise as promise
 use Rattle.kinds.specs.declared.ReadPattern.{ReadPattern}
 use Rattle.kinds.specs.Nodes.{kinds_of, args_of}
+use Rattle.kinds.specs.Words.{words_of, no_byte, Fours}
 use Rattle.pattern.specs.declared.Refusal.{Refusal}
 use Rattle.pattern.specs.declared.Refusal.TheVariants.{TooLong, NoPattern, TooDeep, ManyPositions, ManyMarks}
 
@@ -35,24 +36,29 @@ value_of (Err r) = refusal_value r
 
 -- what the read pattern has, in the words of the definitions
 abbrev pub pattern_parts : ReadPattern → meaning.ReadPattern
-pattern_parts P = record { kind = kinds_of P.node; arg = args_of P.node; class = P.class; nodes = P.nodes; positions = P.positions; marks = P.marks }
+pattern_parts P = record { kind = kinds_of P.node; arg = args_of P.node; class = words_of P.class; nodes = P.nodes; positions = P.positions; marks = P.marks }
 
 -- what an answer has: a refusal has no parts
 abbrev pub parts_of : Result ReadPattern Refusal → meaning.ReadPattern
 parts_of (Ok P) = pattern_parts P
 parts_of (Err r) = meaning.no_parts
 
+-- each class of what was read has four words
+abbrev pub WithFours : Result ReadPattern Refusal → Type 0
+WithFours (Ok P) = Fours P.class
+WithFours (Err r) = ⊤
+
 -- what the contract of `read` says of an answer
 abbrev pub Answers : List ℕ → Result ReadPattern Refusal → Type 0
-Answers pat a = promise.Read pat (number_of a) (value_of a) (parts_of a)
+Answers pat a = promise.Read pat (number_of a) (value_of a) (parts_of a) × WithFours a
 
 -- ---- a read pattern that is lent
 
--- rows of zeros
+-- rows of zeros, and of classes with no byte
 pub record Blank (P : ReadPattern) : Type 0 where
   pub kinds : kinds_of P.node ≡ replicate 1024 0
   pub args : args_of P.node ≡ replicate 1024 0
-  pub classes : P.class ≡ replicate 256 0
+  pub classes : P.class ≡ replicate 64 no_byte
 
 -- what is filled counts where the pattern was read
 abbrev pub answer_of : Result ⊤ Refusal → ReadPattern → Result ReadPattern Refusal

@@ -9,6 +9,7 @@ use Rattle.meaning.specs.ReadPattern.{words}
 use Rattle.grammar.specs.Contract.{AtomDone, AtomBad}
 use Rattle.grammar.specs.ClassContract.{CharAt, NoChar, RangeDone, RangeBad, ClassDone, ClassBad}
 use Rattle.sets.specs.declared.class.Class.{Class}
+use Rattle.kinds.specs.Words.{words_of, Fours}
 use Rattle.pattern.specs.Stores.{Tests}
 use Rattle.pattern.specs.declared.letters.Misplaced.{Misplaced}
 use Rattle.pattern.specs.declared.letters.End.{End}
@@ -55,9 +56,10 @@ abbrev pub Lettered : List ℕ → ℕ → Result Taken Misplaced → Type 0
 Lettered s i (Ok l) = LetterTo PositionDone s i l.next l.class
 Lettered s i (Err m) = AtomBad s i m.0
 
--- from i to j stands a letter, and the words of its class are those of position n, where there is a place for them
-pub record KeptTo (s : List ℕ) (i j n : ℕ) (ws ws' : List ℕ) : Type 0 where
+-- from i to j stands a letter, and its class is that of position n, where there is a place for it
+pub record KeptTo (s : List ℕ) (i j n : ℕ) (l l' : List Class) : Type 0 where
   pub test : ℕ → Bool
   pub done : PositionDone s i j test
-  pub word : ws' ≡ sets ws (4 * n) (words (pos test))
+  pub word : words_of l' ≡ sets (words_of l) (4 * n) (words (pos test))
+  pub fours : Fours l → Fours l'
   pub on : On (length s) i j

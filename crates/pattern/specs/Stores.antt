@@ -8,6 +8,7 @@ use Rattle.sets.specs.declared.class.Class.{Class}
 use Rattle.sets.specs.Classes.{among}
 use Rattle.kinds.specs.declared.ReadPattern.{ReadPattern}
 use Rattle.kinds.specs.Nodes.{kinds_of, args_of}
+use Rattle.kinds.specs.Words.{words_of, Fours}
 use Rattle.pattern.specs.declared.nodes.Cursor.{Cursor}
 
 -- The number beside each kind, with 0 in the place of each mark: a mark is numbered when the whole is read. k nodes and p positions stand
@@ -22,32 +23,33 @@ bare_args k p (star x) = bare_args k p x ++ (0 ∷ [])
 bare_args k p (plus x) = bare_args k p x ++ (0 ∷ [])
 bare_args k p (opt x) = bare_args k p x ++ (0 ∷ [])
 
--- kinds, numbers beside them, and the words of classes
+-- kinds, numbers beside them, and classes
 pub record Stores : Type 0 where
   pub kind : List ℕ
   pub arg : List ℕ
-  pub word : List ℕ
+  pub class : List Class
 
 abbrev pub stores : ReadPattern → Stores
-stores P = record { kind = kinds_of P.node; arg = args_of P.node; word = P.class }
+stores P = record { kind = kinds_of P.node; arg = args_of P.node; class = P.class }
 
--- the same with other words
-abbrev pub with_words : Stores → List ℕ → Stores
-with_words S w = record { kind = S.kind; arg = S.arg; word = w }
+-- the same with other classes
+abbrev pub with_classes : Stores → List Class → Stores
+with_classes S l = record { kind = S.kind; arg = S.arg; class = l }
 
 -- entry i of the first two stores is now k and v
 pub record Put (i k v : ℕ) (S S' : Stores) : Type 0 where
   pub kind : S'.kind ≡ set S.kind i k
   pub arg : S'.arg ≡ set S.arg i v
-  pub word : S'.word ≡ S.word
+  pub class : S'.class ≡ S.class
 
 -- the class holds the bytes that the test holds of
 abbrev pub Tests : Class → (ℕ → Bool) → Type 0
 Tests k f = (q : ℕ) → q < 256 → among k q ≡ f q
 
--- the words of the class are in their place, where there is one for position n
-abbrev pub Keeps : ℕ → Class → List ℕ → List ℕ → Type 0
-Keeps n k ws ws' = (f : ℕ → Bool) → Tests k f → ws' ≡ sets ws (4 * n) (words (pos f))
+-- the class is in its place, where there is one for position n
+pub record Keeps (n : ℕ) (k : Class) (l l' : List Class) : Type 0 where
+  pub word : (f : ℕ → Bool) → Tests k f → words_of l' ≡ sets (words_of l) (4 * n) (words (pos f))
+  pub fours : Fours l → Fours l'
 
 -- the fields of a cursor
 pub record Became (c : Cursor) (i u p m : ℕ) : Type 0 where
@@ -63,7 +65,8 @@ pub record Wrote (c d : Cursor) (S S' : Stores) (e : Re) : Type 0 where
   pub marked : d.marks ≡ c.marks + marks e
   pub kind : S'.kind ≡ sets S.kind c.used (kinds e)
   pub arg : S'.arg ≡ sets S.arg c.used (bare_args c.used c.positions e)
-  pub word : S'.word ≡ sets S.word (4 * c.positions) (words e)
+  pub word : words_of S'.class ≡ sets (words_of S.class) (4 * c.positions) (words e)
+  pub fours : Fours S.class → Fours S'.class
 
 -- the cursor stands in a pattern of n bytes, at most 512
 pub record Within (n : ℕ) (c : Cursor) : Type 0 where

@@ -6,7 +6,7 @@ ghost use Rattle.meaning.specs.Limits.{pattern_limit, nesting_limit};
 ghost use Rattle.meaning.specs.ReadPattern.{no_parts};
 ghost use Rattle.meaning.specs.Promise.{Read};
 ghost use Rattle.grammar.specs.Contract.{Fails};
-ghost use Rattle.pattern.specs.Answers.{refusal_number, refusal_value, number_of, value_of, parts_of, Blank, Fills};
+ghost use Rattle.pattern.specs.Answers.{refusal_number, refusal_value, number_of, value_of, parts_of, WithFours, Blank, Fills};
 
 pub use kinds::ReadPattern;
 use letters::Misplaced;
@@ -119,7 +119,8 @@ pub fn fill(pattern: &[u8], read: &mut ReadPattern) -> Result<(), Refusal>
 }
 
 pub fn read(pattern: &[u8]) -> Result<ReadPattern, Refusal>
-    ensures { Read pattern.now (number_of result) (value_of result) (parts_of result) }
+    ensures read { Read pattern.now (number_of result) (value_of result) (parts_of result) }
+    ensures fours { WithFours result }
 {
     let mut read = ReadPattern::blank();
     fill(pattern, &mut read)?;

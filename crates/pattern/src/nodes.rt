@@ -121,16 +121,14 @@ fn put(read: &mut ReadPattern, i: u16, node: Node)
 }
 
 // Writes the class of position n, of which 64 are kept.
-pub fn keep(class: &mut [u64; 256], n: u16, k: Class)
+pub fn keep(class: &mut [Class; 64], n: u16, k: Class)
     ensures { Keeps n k class.old class.new }
 {
     if n < super::POSITION_LIMIT {
-        let i = 4 * n as usize;
         // Word by word: a copy of all four at once waits until the last is written.
-        class[i] = k.words[0];
-        class[i + 1] = k.words[1];
-        class[i + 2] = k.words[2];
-        class[i + 3] = k.words[3];
+        class[n as usize] = Class {
+            words: [k.words[0], k.words[1], k.words[2], k.words[3]],
+        };
     }
 }
 

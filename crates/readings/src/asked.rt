@@ -5,11 +5,10 @@ use rows::{RowError, row_of};
 use std::io;
 use std::io::{Cursor, Write};
 use tree::first_tree::first_tree;
+use tree::room::CELLS;
 
 // Bytes of the longest pattern that is built, and what is lent unless a line says otherwise: enough for `a*` and 4,096 letters.
 const LONG: usize = 8192;
-
-const CELLS: usize = 4097;
 
 const TOKENS: usize = 12288;
 

@@ -3,10 +3,9 @@ use meaning::Record;
 use sheet::figures::Made;
 use sheet::make::make;
 use std::io;
+use tree::room::CELLS;
 
 // What is lent: enough for a row of 16 tokens.
-const CELLS: usize = 4097;
-
 const TOKENS: usize = 16;
 
 const SHEET: usize = 8192;

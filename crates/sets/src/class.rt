@@ -37,10 +37,16 @@ impl Class {
     pub fn with(self, b: u8) -> Class
         ensures { (q : ℕ) → among result q ≡ (among self q || eqb q b) }
     {
-        let i = (b / 64) as usize;
-        let mut w = self.words;
-        w[i] = w[i] | (1u64 << (b % 64));
-        Class { words: w }
+        let mut r = self;
+        r.add(b);
+        r
+    }
+
+    // Adds b in place: a range would copy the class for each byte.
+    fn add(&mut self, b: u8)
+        ensures { (q : ℕ) → among self.new q ≡ (among self.old q || eqb q b) }
+    {
+        self.words[(b / 64) as usize] |= 1u64 << (b % 64);
     }
 
     // The class and every byte from c to d, both included; none where d is below c.
@@ -49,7 +55,7 @@ impl Class {
     {
         let mut r = self;
         for b in c..=d {
-            r = r.with(b);
+            r.add(b);
         }
         r
     }

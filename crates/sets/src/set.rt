@@ -1,5 +1,5 @@
 // A set of positions below the limit, in one word. Contracts speak of members alone, so that a limit of two words moves no caller.
-ghost use Rattle.std.specs.Prelude.{◌≡◌, true, false, ◌&&◌, ◌||◌, ◌↔◌, ℕ, ◌<◌, eqb, length};
+ghost use Rattle.std.specs.Prelude.{◌≡◌, true, false, ◌&&◌, ◌||◌, not, ◌↔◌, ℕ, ◌<◌, eqb, length};
 ghost use Rattle.sets.specs.Members.{has, limit, none, vacant, meets, Alike, LeastOf, Popped, row, held, Stored};
 
 // Position p is the bit p.
@@ -35,6 +35,16 @@ impl Set {
     {
         Set {
             bits: self.bits | (1u64 << p),
+        }
+    }
+
+    // The set but for p.
+    pub fn without(self, p: usize) -> Set
+        requires { p < limit }
+        ensures { (q : ℕ) → has result q ≡ (has self q && not (eqb q p)) }
+    {
+        Set {
+            bits: self.bits & !(1u64 << p),
         }
     }
 

@@ -12,10 +12,9 @@ use crate::text::text;
 use meaning::Record;
 use night::night;
 use pattern::{PATTERN_LIMIT, ReadPattern, fill};
+use tree::room::CELLS;
 
-// Work cells and bytes of the sheet that are to be lent.
-const CELLS: usize = 4097;
-
+// Bytes of the sheet that are to be lent.
 const SHEET: usize = 8192;
 
 // Looks whether the night is in order, judges and counts its reports, and writes the sheet.

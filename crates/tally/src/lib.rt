@@ -20,7 +20,7 @@ struct Place {
 // Of each mark that is closed behind a place: how many of the byte tokens seen stand behind its next closing.
 type Closings = [u64; 64];
 
-// Stands for a mark that is not closed there: no row has so many bytes. An Option in its place takes a tenth more time.
+// Stands for a mark that is not closed there: no row has so many bytes. An Option in its place takes more time.
 const NEVER: u64 = u64::MAX;
 
 // A mark has more turns.

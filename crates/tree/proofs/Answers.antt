@@ -16,7 +16,7 @@ use Rattle.pattern.specs.declared.Refusal.{Refusal as PatternRefusal}
 use Rattle.pattern.specs.declared.Refusal.TheVariants as refused
 use Rattle.tree.specs.declared.outcome.Refusal.{Refusal}
 use Rattle.tree.specs.declared.outcome.Refusal.TheVariants as outcome
-use Rattle.tree.specs.declared.outcome.Tree.{Tree}
+use Rattle.along.specs.declared.walk.Tree.{Tree}
 use Rattle.tree.specs.Outcome.{Outcome, refusal_number, number_of, value_of, flag_of}
 use Rattle.tree.specs.Search.{Sought, no_tree, a_tree, Searched, sought, tell}
 

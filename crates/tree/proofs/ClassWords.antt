@@ -15,7 +15,10 @@ use Rattle.positions.specs.Tests.{reads}
 use Rattle.grammar.specs.Holds.{Stands, stands_left, stands_right, stands_at, length_words}
 use Rattle.bits.specs.Bit.{bit}
 use Rattle.passes.specs.Masks.{classed}
+use Rattle.sets.specs.declared.class.Class.{Class}
 use Rattle.sets.specs.Classes.{among}
+use Rattle.kinds.specs.Words.{words_of, class_of}
+use Rattle.kinds.proofs.WordLaws.{word_at}
 use Rattle.sets.proofs.ClassLaws.{word_class}
 
 -- byte b is in the words of position q
@@ -70,11 +73,13 @@ module _ (ws : List ℕ) (b : ℕ) (l : b < 256) where
   reads_its_words p (plus x) q h i = reads_its_words p x q h i
   reads_its_words p (opt x) q h i = reads_its_words p x q h i
 
--- where the words of e stand, whether a position reads a byte is told by its four words
-pub reads_classed : (e : Re) {ws : List ℕ} {n : ℕ} → Stands (words e) ws 0 → n ≡ size e → (q b : ℕ) → b < 256 → reads 0 e q b ≡ classed ws n q b
-unfolding classed
-reads_classed e {ws} {n} h z q b l = rw z (go (ltb q (size e)) refl)
+-- where the words of e stand, whether a position reads a byte is told by its class
+pub reads_classed : (e : Re) (l : List Class) {n : ℕ} → Stands (words e) (words_of l) 0 → n ≡ size e → (q b : ℕ) → b < 256 → reads 0 e q b ≡ classed l n q b
+unfolding classed among
+reads_classed e l {n} h z q b i = rw z (go (ltb q (size e)) refl)
   where
-    go : (t : Bool) → ltb q (size e) ≡ t → reads 0 e q b ≡ (t && in_class ws q b)
-    go true i = reads_its_words ws b l 0 e q h (omega arith, omega (arith, ltb-true q (size e) i))
-    go false i = reads_out 0 e q b (λ o. omega (arith, o, ltb-false q (size e) i))
+    go : (t : Bool) → ltb q (size e) ≡ t → reads 0 e q b ≡ (t && among (class_of l q) b)
+    go true f =
+        reads_its_words (words_of l) b i 0 e q h (omega arith, omega (arith, ltb-true q (size e) f))
+        ∙ ap (λ (x : ℕ). bit 64 x (b % 64)) (word_at l q (b / 64) (omega arith))
+    go false f = reads_out 0 e q b (λ o. omega (arith, o, ltb-false q (size e) f))

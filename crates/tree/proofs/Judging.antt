@@ -26,8 +26,7 @@ use Rattle.walks.specs.Enter.{open_to}
 use Rattle.walks.proofs.Looks.{open_is}
 use Rattle.std.proofs.Common.{Ok, Err}
 use Rattle.tree.specs.declared.outcome.Refusal.TheVariants.{NoTree}
-use Rattle.along.specs.declared.walk.Walked.{Walked}
-use Rattle.tree.specs.Outcome.{tree_of}
+use Rattle.along.specs.declared.walk.Tree.{Tree}
 use Rattle.kinds.specs.declared.ReadPattern.{ReadPattern}
 use Rattle.tree.specs.declared.prepare.Reader.{Reader}
 use Rattle.tree.specs.Judge.{Rooted, Judgeable, SoughtAs}
@@ -73,7 +72,7 @@ module _ {e : Re} {pattern : ReadPattern} {r : Reader} {text cells : List ℕ} (
     a_tree = y;
   }
 
-  pub judge_tree : {t t' : List ℕ} {w : Walked} → found e text ≡ true → Measures e text w → t' ≡ kept (first_row e text) t → SoughtAs e text t t' (Ok (tree_of w))
+  pub judge_tree : {t t' : List ℕ} {w : Tree} → found e text ≡ true → Measures e text w → t' ≡ kept (first_row e text) t → SoughtAs e text t t' (Ok w)
   judge_tree y M z = sought_tree (first_tree e rooted.fair few text y) (first_flag e rooted.fair few text y) M.long (ap (λ (b : Bool). cond b 1 0) M.other) z
 
   -- a room for every tree holds the first

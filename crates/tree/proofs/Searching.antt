@@ -42,7 +42,7 @@ module _ {pat : List ℕ} {P : ReadPattern} (bytes : (i : ℕ) → Fits w8 (get_
         };
         all = sym h.nodes_are;
         positions_are = h.positions_are;
-        classes = reads_classed H.denotes h.classes h.positions_are;
+        classes = reads_classed H.denotes P.class h.classes h.positions_are;
       }
 
   pub gives : Gives P

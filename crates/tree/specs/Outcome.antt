@@ -1,14 +1,9 @@
 -- The number, value and flag that an answer of the first tree stands for. Assumes nothing: these are definitions.
 use Rattle.std.specs.Prelude.{cond, ℕ, Result, Ok, Err}
-use Rattle.along.specs.declared.walk.Walked.{Walked}
 use Rattle.pattern.specs.Answers as pattern
 use Rattle.tree.specs.declared.outcome.Refusal.{Refusal}
 use Rattle.tree.specs.declared.outcome.Refusal.TheVariants.{Pattern, LongText, FewCells, NoTree, SmallRoom}
-use Rattle.tree.specs.declared.outcome.Tree.{Tree}
-
--- what a walk comes to
-abbrev pub tree_of : Walked → Tree
-tree_of w = record { length = w.length; other = w.other }
+use Rattle.along.specs.declared.walk.Tree.{Tree}
 
 -- of a refusal; what a refused pattern stands for, the pattern reader says
 abbrev pub refusal_number : Refusal → ℕ

@@ -8,16 +8,16 @@ ghost use Rattle.along.specs.Walk.{Measures, Walkable, Walks};
 ghost use Rattle.tree.specs.declared.prepare.Reader.{Reader};
 ghost use Rattle.tree.specs.Judge.{Judgeable, Judges, Prepared, Prepares, SoughtAs, Seeks, Serves};
 
-use crate::outcome::{Outcome, Refusal, Tree};
+use crate::outcome::{Outcome, Refusal};
 use crate::prepare::Reader;
 use crate::room::room_for;
+use along::chart::Chart;
 use along::links::Links;
-use along::walk::{Walked, walk};
+use along::walk::{Tree, walk};
 use kinds::ReadPattern;
 use passes::backward::{Recent, backward};
 use passes::place::place;
 use sets::set::Set;
-use walks::tables::Tables;
 
 // What is kept on the way, of steps back over a byte and of ways on: it serves for every text of a pattern.
 #[derive(Clone, Copy)]
@@ -43,22 +43,16 @@ impl Kept {
 }
 
 // The walk along the text with next to no room, for what it counts.
-fn measure(
-    pattern: &ReadPattern,
-    tables: &Tables,
-    root: usize,
-    text: &[u8],
-    cells: &[u64],
-    links: &mut Links,
-) -> Walked
-    requires walks { Walks pattern.now root text.now cells.now }
-    requires charted { ChartedBy tables.now pattern.now root }
-    requires stock { Stock pattern.now root links.old }
-    ensures measures { (e : Re) → Walkable e pattern.now root text.now cells.now → Measures e text.now result }
-    ensures stocked { Stock pattern.now root links.new }
+fn measure(chart: Chart, text: &[u8], cells: &[u64], links: &mut Links) -> Tree
+    requires walks { Walks chart.pattern.now chart.root text.now cells.now }
+    requires charted { ChartedBy chart.tables.now chart.pattern.now chart.root }
+    requires stock { Stock chart.pattern.now chart.root links.old }
+    ensures measures { (e : Re) → Walkable e chart.entry.pattern.now chart.entry.root text.now cells.now
+        → Measures e text.now result }
+    ensures stocked { Stock chart.entry.pattern.now chart.entry.root links.new }
 {
     let mut none = [0u16; 1];
-    walk(pattern, tables, root, text, cells, links, &mut none)
+    walk(chart, text, cells, links, &mut none)
 }
 
 // With the cells filled: is there a tree? Its row goes into the room if that holds it. A room that holds every tree is written at once;
@@ -84,15 +78,20 @@ fn judge(
         let first = tables.nodes.first[root];
         return Err(Refusal::NoTree(place(text, &reader.mask, &tables.follow, first)));
     }
+    let chart = Chart {
+        pattern,
+        tables,
+        root,
+    };
     if room_for(pattern.marks, n) <= tree.len() {
-        let w = walk(pattern, tables, root, text, cells, links, tree);
-        return Ok(Tree::from(w));
+        let w = walk(chart, text, cells, links, tree);
+        return Ok(w);
     }
-    let w = measure(pattern, tables, root, text, cells, links);
+    let w = measure(chart, text, cells, links);
     if w.length <= tree.len() {
-        walk(pattern, tables, root, text, cells, links, tree);
+        walk(chart, text, cells, links, tree);
     }
-    Ok(Tree::from(w))
+    Ok(w)
 }
 
 // With the tables of the pattern: fills the cells, and judges. The cells that the text asks for stay filled.

@@ -1,27 +1,9 @@
 // What an answer of the first tree says: its number, its value and its flag.
 ghost use Rattle.std.specs.Prelude.{◌≡◌, Err};
 ghost use Rattle.tree.specs.declared.outcome.Refusal.TheVariants.{Pattern};
-ghost use Rattle.tree.specs.Outcome.{refusal_number, refusal_value, number_of, value_of, flag_of, tree_of};
+ghost use Rattle.tree.specs.Outcome.{refusal_number, refusal_value, number_of, value_of, flag_of};
 
-use along::walk::Walked;
-
-// The first tree of a text: how many tokens its row has, and whether another tree exists.
-#[derive(Clone, Copy, PartialEq, Eq, Debug)]
-pub struct Tree {
-    pub length: usize,
-    pub other: bool,
-}
-
-impl From<Walked> for Tree {
-    ghost from_gives = { λ w tree. tree ≡ tree_of w };
-
-    fn from(w: Walked) -> Tree {
-        Tree {
-            length: w.length,
-            other: w.other,
-        }
-    }
-}
+pub use along::walk::Tree;
 
 // Why there is no tree to hand out: the pattern is refused, the text is too long, the cells are too few, no tree exists, or the room does
 // not hold its row. Beside the last two stand the place up to which the text can be read, and the length of the row.

@@ -6,6 +6,9 @@ ghost use Rattle.tree.specs.Lending.{Enough};
 use crate::search::TEXT_LIMIT;
 use pattern::MARK_LIMIT;
 
+// The work cells that every text can do with.
+pub const CELLS: usize = 4097;
+
 // The work cells that a text of n bytes asks for.
 fn cells_for(n: usize) -> usize
     requires { n ≤ text_limit }

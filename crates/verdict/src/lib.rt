@@ -4,6 +4,7 @@
 ghost use Rattle.meaning.specs.Promise.{Verdict};
 ghost use Rattle.verdict.specs.Suffice.{Suffice};
 
+use tree::room::CELLS;
 use tree::search::search;
 
 // The verdict, with cells that suffice for the text.
@@ -28,6 +29,6 @@ pub fn verdict(pattern: &[u8], text: &[u8]) -> u32
         let mut few = [0u64; 256];
         return judged(pattern, text, &mut few);
     }
-    let mut cells = [0u64; 4097];
+    let mut cells = [0u64; CELLS];
     judged(pattern, text, &mut cells)
 }

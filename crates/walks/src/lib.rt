@@ -4,6 +4,7 @@
 pub mod enter;
 pub mod first;
 pub mod follow;
+pub mod guide;
 pub mod look;
 pub mod null;
 pub mod resume;

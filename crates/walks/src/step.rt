@@ -12,7 +12,7 @@ pub enum Step {
 }
 
 // Stores a token where there is room for it, and counts it in any case.
-pub fn put(tree: &mut [u16], at: usize, token: u16) -> usize
+pub fn put<T: Copy + Drop>(tree: &mut [T], at: usize, token: T) -> usize
     requires { at + 1 < 2 ^ 64 }
     ensures { (result ≡ at + 1) × (tree.new ≡ set tree.old at token) }
 {

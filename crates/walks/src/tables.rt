@@ -5,7 +5,7 @@ ghost use Rattle.sets.specs.Members.{limit, rows};
 ghost use Rattle.walks.specs.Root.{Root, Tabled, Spared};
 
 use crate::first::opens_first;
-use crate::follow::may_follow;
+use crate::guide::Guide;
 use crate::null::may_be_empty;
 use kinds::ReadPattern;
 use sets::set::Set;
@@ -45,14 +45,10 @@ impl Tables {
             root,
         );
         let none = Set::empty();
-        may_follow(
+        let guide = Guide {
             pattern,
-            &self.nodes,
-            &mut self.follow,
-            root,
-            none,
-            true,
-            none,
-        )
+            opens: &self.nodes,
+        };
+        guide.may_follow(&mut self.follow, root, none, true, none)
     }
 }

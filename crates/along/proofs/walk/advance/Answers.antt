@@ -20,7 +20,7 @@ returns-then-next-text-clause-advanced c =
     record {
       goes = λ e w a.
           walk_came w c.requires.advances.left a c.load-goal.ensures (ended_all text _ c.if-next-text.true) c.put-at.ensures.0 (written put)
-          (went c.resume.ensures) c.also.ensures;
+          (went (rw c.guide.ensures.pattern at c.resume.ensures)) c.also.ensures;
     }
 
 pub returns-clause-advanced : goal.returns-clause-advanced

@@ -9,9 +9,9 @@ use Rattle.along.proofs.walk.walk.Goals as goal
 use Rattle.along.proofs.walk.walk.Goals.{After-enter-s, In-loop-i}
 
 -- the way into the root
-started : (c : After-enter-s) (e : Re) → Walkable e c.args.pattern.now c.args.root c.args.text.now c.args.cells.now
+started : (c : After-enter-s) (e : Re) → Walkable e c.args.chart.pattern.now c.args.chart.root c.args.text.now c.args.cells.now
     → Along e c.args.text.now c.enter-s.new.tree c.enter-s.result 0
-started c e w = walk_start w _ c.load-goal.ensures (ended_zero c.args.text.now) c.enter-s.ensures
+started c e w = walk_start w _ c.load-goal.ensures (ended_zero c.args.text.now) (rw c.guide.ensures.pattern at c.enter-s.ensures)
 
 -- a byte is left
 more : (c : In-loop-i) → c.loop-i.i < length c.args.text.now
@@ -48,4 +48,4 @@ pub returns-clause-writes : goal.returns-clause-writes
 returns-clause-writes c e w =
     let start = started (goal.at.returns-clause-writes c).After-enter-s e w in
     let end = c.after-end.ensures in
-    walk_end w (start_beyond w c.enter-s.ensures) (c.loop-i.invariant.1 e w start) (omega arith) end.counted end.other
+    walk_end w (start_beyond w (rw c.guide.ensures.pattern at c.enter-s.ensures)) (c.loop-i.invariant.1 e w start) (omega arith) end.counted end.other

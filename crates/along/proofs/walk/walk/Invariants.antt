@@ -10,7 +10,7 @@ use Rattle.along.proofs.walk.walk.Given as goal
 
 abbrev pub invariant-loop-i : goal.invariant-loop-i
 invariant-loop-i l =
-    (l.i ≤ lists.length l.text) × ((e : Re) → Walkable e l.pattern l.root l.text l.cells → Along e l.text l.initial.tree l.initial.s 0 → Came e l.text l.initial.tree l.tree l.initial.s l.s 0 l.i) × Stock l.pattern l.root l.kept
+    (l.i ≤ lists.length l.text) × ((e : Re) → Walkable e l.chart.pattern.now l.chart.root l.text l.cells → Along e l.text l.initial.tree l.initial.s 0 → Came e l.text l.initial.tree l.tree l.initial.s l.s 0 l.i) × Stock l.chart.pattern.now l.chart.root l.kept
 
 abbrev pub decreases-loop-i : goal.decreases-loop-i
 decreases-loop-i l = lists.length l.text - l.i

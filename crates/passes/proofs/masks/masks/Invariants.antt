@@ -1,6 +1,6 @@
--- `passes::masks::masks`, the loop's invariant: the positions joined the rows of the bytes in the words before word i. Assumes nothing.
-use Rattle.passes.proofs.Upto.{Brought}
+-- `passes::masks::masks`, the loop's invariant: the positions before position q joined the rows of their bytes. Assumes nothing.
+use Rattle.passes.specs.Masks.{Masked}
 use Rattle.passes.proofs.masks.masks.Given as goal
 
-abbrev pub invariant-loop-i : goal.invariant-loop-i
-invariant-loop-i l = Brought l.class l.i l.initial.mask l.mask
+abbrev pub invariant-loop-q : goal.invariant-loop-q
+invariant-loop-q l = Masked l.fn.class l.q l.initial.mask l.mask

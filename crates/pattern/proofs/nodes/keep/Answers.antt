@@ -5,7 +5,7 @@ use Rattle.pattern.proofs.Classes.{kept, unkept}
 use Rattle.pattern.proofs.nodes.keep.Goals as goal
 
 pub returns-then-n-lt-POSITION_LIMIT : goal.returns-then-n-lt-POSITION_LIMIT
-returns-then-n-lt-POSITION_LIMIT c = λ f h. kept _ _ _ f (class_fits c.well_formed.1.1.0) h
+returns-then-n-lt-POSITION_LIMIT c = kept _ _ _ (class_fits c.well_formed.1.1.0)
 
 pub returns-else-n-lt-POSITION_LIMIT : goal.returns-else-n-lt-POSITION_LIMIT
-returns-else-n-lt-POSITION_LIMIT c = λ f h. unkept _ _ f (omega arith) c.if-n-lt-POSITION_LIMIT.false
+returns-else-n-lt-POSITION_LIMIT c = unkept _ _ _ (omega (arith, c.if-n-lt-POSITION_LIMIT.false))

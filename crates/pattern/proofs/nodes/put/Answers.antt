@@ -8,5 +8,5 @@ returns c =
     record {
       kind = kinds_set c.args.read.now.node c.args.i c.args.node;
       arg = args_set c.args.read.now.node c.args.i c.args.node;
-      word = refl;
+      class = refl;
     }

@@ -6,7 +6,7 @@ use Rattle.along.specs.Walk.{Walks}
 use Rattle.tree.specs.Judge.{Judgeable}
 use Rattle.tree.proofs.Judging.{found_is, judge_walkable, judge_tree, judge_fits, judge_none, kept_whole, kept_none}
 use Rattle.tree.proofs.judge.judge.Goals as goal
-use Rattle.tree.proofs.judge.judge.Goals.{Else-not-open_to, then-w-tree, else-w-tree}
+use Rattle.tree.proofs.judge.judge.Goals.{Else-not-open_to}
 
 -- the test says yes, whatever the root holds
 yes : (c : Else-not-open_to) (e : Re) → Judgeable e c.args.pattern.now c.args.reader.now c.args.text.now c.args.cells.now → found e c.args.text.now ≡ true
@@ -29,7 +29,7 @@ returns-then-room_for-tree-clause-sought_as c e j =
     let y = yes (goal.at.returns-then-room_for-tree-clause-sought_as c).Else-not-open_to e j in
     let w = c.walk-w.ensures.writes e (judge_walkable j y) in
     let fits = judge_fits j y c.room_for.ensures c.if-room_for-tree.true in
-    rw c.from.ensures (judge_tree j y w.measures (w.row ∙ kept_whole (first_row e c.args.text.now) c.args.tree.now fits))
+    judge_tree j y w.measures (w.row ∙ kept_whole (first_row e c.args.text.now) c.args.tree.now fits)
 
 pub measure-w-requires-clause-walks : goal.measure-w-requires-clause-walks
 measure-w-requires-clause-walks c = walks (goal.at.measure-w-requires-clause-walks c).Else-not-open_to
@@ -37,14 +37,16 @@ measure-w-requires-clause-walks c = walks (goal.at.measure-w-requires-clause-wal
 pub walk-requires-clause-walks : goal.walk-requires-clause-walks
 walk-requires-clause-walks c = walks (goal.at.walk-requires-clause-walks c).Else-not-open_to
 
--- measured first
-pub returns-clause-sought_as : goal.returns-clause-sought_as
-returns-clause-sought_as c e j =
-    let y = yes (goal.at.returns-clause-sought_as c).Else-not-open_to e j in
-    let walkable = judge_walkable j y in
-    let m = c.measure-w.ensures.measures e walkable in
-    let asked = c.args in
-    rw c.from-2.ensures (judge_tree j y m (elim c.if-w-tree.branch [
-      | then-w-tree w ↦ w.tree-is ∙ (w.walk.ensures.writes e walkable).row ∙ kept_whole (first_row e asked.text.now) asked.tree.now (omega (arith, m.long, w.if-w-tree.true))
-      | else-w-tree w ↦ w.tree-is ∙ kept_none (first_row e asked.text.now) asked.tree.now (omega (arith, m.long, w.if-w-tree.false))
-    ]))
+-- measured first, and then written if it fits
+pub returns-then-w-tree-clause-sought_as : goal.returns-then-w-tree-clause-sought_as
+returns-then-w-tree-clause-sought_as c e j =
+    let y = yes (goal.at.returns-then-w-tree-clause-sought_as c).Else-not-open_to e j in
+    let w = judge_walkable j y in
+    let m = c.measure-w.ensures.measures e w in
+    judge_tree j y m ((c.walk.ensures.writes e w).row ∙ kept_whole (first_row e c.args.text.now) c.args.tree.now (omega (arith, m.long, c.if-w-tree.true)))
+
+pub returns-else-w-tree-clause-sought_as : goal.returns-else-w-tree-clause-sought_as
+returns-else-w-tree-clause-sought_as c e j =
+    let y = yes (goal.at.returns-else-w-tree-clause-sought_as c).Else-not-open_to e j in
+    let m = c.measure-w.ensures.measures e (judge_walkable j y) in
+    judge_tree j y m (kept_none (first_row e c.args.text.now) c.args.tree.now (omega (arith, m.long, c.if-w-tree.false)))

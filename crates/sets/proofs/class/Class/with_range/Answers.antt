@@ -19,7 +19,7 @@ loop-b-init c =
     (omega arith, λ q. sym (ap (λ (t : Bool). among a.self q || t) (range_none a.c q) ∙ or-false (among a.self q)))
 
 pub loop-b-preserved : goal.loop-b-preserved
-loop-b-preserved c = (omega arith, λ q. more c.args.c c.loop-b.b q _ _ _ (omega arith) (c.with-r.ensures q) (c.loop-b.invariant.1 q))
+loop-b-preserved c = (omega arith, λ q. more c.args.c c.loop-b.b q _ _ _ (omega arith) (c.add.ensures q) (c.loop-b.invariant.1 q))
 
 pub returns : goal.returns
 returns c q =
@@ -31,5 +31,5 @@ pub returns-2 : goal.returns-2
 returns-2 c q =
     let a = c.args in
     let l = c.loop-b in
-    more a.c l.b q _ _ _ (omega arith) (c.with-r.ensures q) (l.invariant.1 q)
+    more a.c l.b q _ _ _ (omega arith) (c.add.ensures q) (l.invariant.1 q)
     ∙ ap (λ (t : Bool). among a.self q || t) (range_end a.c a.d (l.b + 1) q (omega arith) (omega arith))

@@ -7,8 +7,8 @@ use Rattle.walks.proofs.Parts.{above_one, above_two, eps_at, pos_at, cat_at, alt
 use Rattle.walks.proofs.Fill.{set_put}
 use Rattle.walks.proofs.Looks.{scanned_to}
 use Rattle.walks.proofs.Follows.{follows_eps, follows_pos, follows_one, follows_two, next_cat, next_alt, next_again, next_once, last_cat, last_alt}
-use Rattle.walks.proofs.follow.+may_follow.Goals as goal
-use Rattle.walks.proofs.follow.+may_follow.Goals.{After-may_follow, then-opens-right, else-opens-right}
+use Rattle.walks.proofs.guide.Guide.+may_follow.Goals as goal
+use Rattle.walks.proofs.guide.Guide.+may_follow.Goals.{After-may_follow, then-self-right, else-self-right}
 
 pub returns-in-Eps-clause-follows : goal.returns-in-Eps-clause-follows
 returns-in-Eps-clause-follows t c = follows_eps (eps_at _ _ c.in-Eps.is)
@@ -39,15 +39,15 @@ may_follow-requires t c =
     (omega (arith, c.decreases, right.0), (right.1, scanned_to c.requires.scanned (omega arith)))
 
 -- the end may come after the left part where the right one may be passed
-last_is : (t : ℕ) (c : After-may_follow t) → c.if-opens-right.last ≡ last_of 2 (get_or c.args.opens.now.null (c.args.i - 1) false) c.args.end
+last_is : (t : ℕ) (c : After-may_follow t) → c.if-self-right.last ≡ last_of 2 (get_or c.args.self.opens.now.null (c.args.i - 1) false) c.args.end
 last_is t c =
-    elim c.if-opens-right.branch [
-      | then-opens-right w ↦ w.last-is ∙ rw (w.if-opens-right.true) (last_cat true c.args.end)
-      | else-opens-right w ↦ w.last-is ∙ rw (w.if-opens-right.false) (last_cat false c.args.end)
+    elim c.if-self-right.branch [
+      | then-self-right w ↦ w.last-is ∙ rw (w.if-self-right.true) (last_cat true c.args.end)
+      | else-self-right w ↦ w.last-is ∙ rw (w.if-self-right.false) (last_cat false c.args.end)
     ]
 
-pub returns-after-opens-right-clause-follows : goal.returns-after-opens-right-clause-follows
-returns-after-opens-right-clause-follows t c =
+pub returns-after-self-right-clause-follows : goal.returns-after-self-right-clause-follows
+returns-after-self-right-clause-follows t c =
     follows_two c.requires.scanned (λ q. c.coming-next.ensures q ∙ next_cat _ _ _) (cat_at _ _ c.in-Cat.is) (last_is t c)
     c.may_follow-seen.ensures.follows c.may_follow.ensures.follows
 

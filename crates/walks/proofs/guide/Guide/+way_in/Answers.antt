@@ -4,7 +4,7 @@ use Rattle.walks.proofs.Parts.{above_one, above_two, eps_at, pos_at, cat_at, alt
 use Rattle.walks.proofs.Looks.{scanned_to}
 use Rattle.walks.proofs.Entering.{ready_mark, ready_put, ready_part, ready_close, ready_left, ready_alt, ready_on}
 use Rattle.walks.proofs.Entering.{enters_eps, enters_pos, enters_loop, enters_turn, enters_cat, enters_left, enters_right, turns_in, turns_none}
-use Rattle.walks.proofs.enter.+way_in.Goals as goal
+use Rattle.walks.proofs.guide.Guide.+way_in.Goals as goal
 
 pub enter-returns-in-Eps : goal.enter-returns-in-Eps
 enter-returns-in-Eps t c = enters_eps _ _ c.requires.scanned (eps_at _ _ c.in-Eps.is)

@@ -1,6 +1,6 @@
 -- The walk into a node: the node number falls; `enter`, and `on` and `turn` come in this order at one node.
 use Rattle.std.proofs.Common.{◌+◌, ◌*◌}
-use Rattle.walks.proofs.enter.+way_in.Given as goal
+use Rattle.walks.proofs.guide.Guide.+way_in.Given as goal
 
 abbrev pub decreases-enter : goal.decreases-enter
 decreases-enter l = 2 * l.i

@@ -4,7 +4,7 @@ use Rattle.walks.proofs.Parts.{above_one, above_two, leaf_at, cat_at, alt_at, st
 use Rattle.walks.proofs.Resuming.{asked_to, placed_mark, placed_part, placed_close, placed_again, placed_left, placed_on}
 use Rattle.walks.proofs.Resuming.{resumes_leaf, resumes_again, resumes_close, resumes_left, resumes_cat}
 use Rattle.walks.proofs.Spines.{spine_resumes, held_at, left_below, left_ends, left_has}
-use Rattle.walks.proofs.resume.+resume.Goals as goal
+use Rattle.walks.proofs.guide.Guide.+resume.Goals as goal
 
 pub returns-in-Eps : goal.returns-in-Eps
 returns-in-Eps t c = spine_resumes c.requires.known c.requires.placed c.holder-n.ensures.holder.spine (resumes_leaf _ _ (leaf_at _ _ c.in-Eps.is))

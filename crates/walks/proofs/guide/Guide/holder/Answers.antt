@@ -3,7 +3,7 @@ use Rattle.std.proofs.Common.{arith}
 use Rattle.walks.specs.Resume.{from_here, further}
 use Rattle.walks.proofs.Parts.{above_two}
 use Rattle.walks.proofs.Spines.{right_pair, spine_placed, spine_below}
-use Rattle.walks.proofs.resume.holder.Goals as goal
+use Rattle.walks.proofs.guide.Guide.holder.Goals as goal
 
 pub loop-n-init : goal.loop-n-init
 loop-n-init c = from_here
