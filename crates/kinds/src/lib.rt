@@ -1,7 +1,7 @@
 // A read pattern, as a row of nodes.
 #![tactic(auto)]
 
-ghost use Rattle.std.specs.Prelude.{◌≡◌, ◌≤◌, replicate};
+ghost use Rattle.std.specs.Prelude.{◌≡◌, ◌≤◌, ◌<◌, replicate};
 ghost use Rattle.kinds.specs.Nodes.{kind_of, arg_of, kinds_of, args_of};
 ghost use Rattle.kinds.specs.Words.{no_byte};
 
@@ -26,6 +26,7 @@ impl Node {
     pub fn with_mark(self, mark: u16) -> Node
         ensures kind { kind_of result ≡ kind_of self }
         ensures arg { 4 ≤ kind_of self → arg_of result ≡ mark }
+        ensures unmarked { kind_of self < 4 → result ≡ self }
     {
         match self {
             Node::Branch(_) => Node::Branch(mark),
@@ -38,7 +39,7 @@ impl Node {
 }
 
 // The class of position q is class[q].
-#[derive(Clone, Copy)]
+#[derive(Clone, Copy, PartialEq, Eq)]
 pub struct ReadPattern {
     pub node: [Node; 1024],
     pub class: [Class; 64],

@@ -65,6 +65,18 @@ abbrev pub answer_of : Result ⊤ Refusal → ReadPattern → Result ReadPattern
 answer_of (Ok done) P = Ok P
 answer_of (Err r) P = Err r
 
+-- figures of zero
+pub record Bare (P : ReadPattern) : Type 0 where
+  pub nodes : P.nodes ≡ 0
+  pub positions : P.positions ≡ 0
+  pub marks : P.marks ≡ 0
+
+-- a refusal has figures of zero
+abbrev pub Figured : Result ⊤ Refusal → ReadPattern → Type 0
+Figured (Ok done) P = ⊤
+Figured (Err r) P = Bare P
+
 -- what was filled is an answer for the pattern
 pub record Fills (pat : List ℕ) (filled : Result ⊤ Refusal) (P : ReadPattern) : Type 0 where
   pub answers : Answers pat (answer_of filled P)
+  pub figured : Figured filled P

@@ -84,7 +84,8 @@ pub fn class_item(p: &[u8], at: usize) -> Result<Span, Misplaced>
     })
 }
 
-// The items of a class, from the byte past the '[' on, and its ']'.
+// The items of a class, from the byte past the '[' on, and its ']'. It is read where it is kept, as a letter is.
+#[inline(always)]
 pub fn class(p: &[u8], from: usize) -> Result<Taken, Misplaced>
     requires { from ≤ length p.now }
     ensures { Classed p.now from result }

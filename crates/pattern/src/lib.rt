@@ -6,7 +6,7 @@ ghost use Rattle.meaning.specs.Limits.{pattern_limit, nesting_limit};
 ghost use Rattle.meaning.specs.ReadPattern.{no_parts};
 ghost use Rattle.meaning.specs.Promise.{Read};
 ghost use Rattle.grammar.specs.Contract.{Fails};
-ghost use Rattle.pattern.specs.Answers.{refusal_number, refusal_value, number_of, value_of, parts_of, WithFours, Blank, Fills};
+ghost use Rattle.pattern.specs.Answers.{refusal_number, refusal_value, number_of, value_of, parts_of, WithFours, Answers, Blank, answer_of, Fills};
 
 pub use kinds::ReadPattern;
 use letters::Misplaced;
@@ -90,9 +90,9 @@ fn wrong(pattern: &[u8]) -> Refusal
 }
 
 // Reads a pattern into rows of zeros. Where it is refused, what stands in `read` is left open.
-pub fn fill(pattern: &[u8], read: &mut ReadPattern) -> Result<(), Refusal>
+fn filled(pattern: &[u8], read: &mut ReadPattern) -> Result<(), Refusal>
     requires { Blank read.old }
-    ensures { Fills pattern.now result read.new }
+    ensures { Answers pattern.now (answer_of result read.new) }
 {
     if PATTERN_LIMIT < pattern.len() {
         return Err(Refusal::TooLong);
@@ -116,6 +116,22 @@ pub fn fill(pattern: &[u8], read: &mut ReadPattern) -> Result<(), Refusal>
     read.positions = end.positions as usize;
     read.marks = end.marks as usize;
     Ok(())
+}
+
+// Reads a pattern into rows of zeros. Where it is refused, the figures are zero, and what stands in the rows is left open.
+pub fn fill(pattern: &[u8], read: &mut ReadPattern) -> Result<(), Refusal>
+    requires { Blank read.old }
+    ensures { Fills pattern.now result read.new }
+{
+    match filled(pattern, read) {
+        Ok(()) => Ok(()),
+        Err(why) => {
+            read.nodes = 0;
+            read.positions = 0;
+            read.marks = 0;
+            Err(why)
+        }
+    }
 }
 
 pub fn read(pattern: &[u8]) -> Result<ReadPattern, Refusal>

@@ -1,12 +1,15 @@
 // A branch list, a branch, an item and an atom: four functions that call each other in a cycle. Each takes how many groups may still be
 // opened, and answers the cursor past what it read; or nothing, since there is a mistake or more groups are opened than may be.
-ghost use Rattle.std.specs.Prelude.{ℕ, ◌+◌, ◌<◌, length};
+ghost use Rattle.std.specs.Prelude.{ℕ, ◌+◌, ◌<◌, length, MatchOption};
+ghost use Rattle.grammar.specs.Contract.{ItemFails};
+ghost use Rattle.pattern.specs.Letters.{KeptTo};
 ghost use Rattle.pattern.specs.Stores.{stores, Within};
 ghost use Rattle.pattern.specs.Parts.{ByteAt, Signed, Atomed, Itemed, Branched, Listed};
 
 use super::letters::letter;
 use super::nodes::{Cursor, keep};
 use kinds::{Node, ReadPattern};
+use sets::class::Class;
 
 // The node for the sign at `at`, where one of * + ? is there; its mark is numbered later.
 pub fn sign(p: &[u8], at: usize) -> Option<Node>
@@ -20,15 +23,25 @@ pub fn sign(p: &[u8], at: usize) -> Option<Node>
     }
 }
 
-// An atom that is no group. It keeps its own frame, so that the frames of the cycle hold no class.
+// An atom that is no group: its class is kept, and the place past it answered. It has its own frame, so that the frames of the cycle hold no
+// class, and its answer is no cursor, which would go through memory.
 #[inline(never)]
+fn kept(p: &[u8], class: &mut [Class; 64], c: Cursor) -> Option<usize>
+    requires { Within (length p.now) c × (ByteAt p.now c.at 40 → ⊥) }
+    ensures { MatchOption result ((left : ℕ) → ItemFails p.now c.at left) (λ next. KeptTo p.now c.at next c.positions class.old class.new) }
+{
+    let letter = letter(p, c.at as usize).ok()?;
+    keep(class, c.positions, letter.class);
+    Some(letter.next)
+}
+
+// An atom that is no group.
 fn single(p: &[u8], read: &mut ReadPattern, c: Cursor) -> Option<Cursor>
     requires { Within (length p.now) c × (ByteAt p.now c.at 40 → ⊥) }
     ensures { (left : ℕ) → Atomed p.now left c (stores read.old) (stores read.new) result }
 {
-    let letter = letter(p, c.at as usize).ok()?;
-    keep(&mut read.class, c.positions, letter.class);
-    Some(c.position(read, letter.next as u16))
+    let next = kept(p, &mut read.class, c)?;
+    Some(c.position(read, next as u16))
 }
 
 #[cycle(parts)]

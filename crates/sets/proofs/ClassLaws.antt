@@ -1,11 +1,12 @@
 -- What a caller's proof may want of classes beside the contracts. Assumes nothing.
 use mathlib.Core.Path.{◌≡◌, sym, ap, ◌∙◌}
 use mathlib.Core.Bool.{Bool}
-use mathlib.Core.List.{List}
-use Prim.Native.Nat.{ℕ, ◌+◌, ◌*◌, ◌/◌, ◌%◌, ◌<◌}
+use mathlib.Core.List.{List, [], ◌∷◌}
+use Prim.Native.Nat.{ℕ, zero, suc, ◌+◌, ◌*◌, ◌/◌, ◌%◌, ◌<◌}
 use native.Mathlib.Omega.{arith}
 use borrow.Author.Rules.{rules}
-use lib.ListN.{get_or}
+use lib.ListN.{length, get_or}
+use Rattle.std.proofs.Math.ListN.{get_or-eq_default}
 use mir.Syntax.{w64}
 use mir.Val.{Val, Fits}
 use denote.Laws.{Is}
@@ -38,3 +39,12 @@ unfolding among
 word_class k f e q l =
     let i = q / 64 in
     ap (λ (x : ℕ). bit 64 x (q % 64)) (e i (omega arith)) ∙ bit_binary 64 (λ j. f (64 * i + j)) (q % 64) (omega arith) ∙ ap f (omega arith)
+
+-- the words of a row of four, one by one
+pub four_words : (a b c d : ℕ) (l : List ℕ) → length l ≡ 4 → a ≡ get_or l 0 0 → b ≡ get_or l 1 0 → c ≡ get_or l 2 0 → d ≡ get_or l 3 0
+    → (i : ℕ) → get_or (a ∷ b ∷ c ∷ d ∷ []) i 0 ≡ get_or l i 0
+four_words a b c d l h e f g k zero = e
+four_words a b c d l h e f g k (suc zero) = f
+four_words a b c d l h e f g k (suc (suc zero)) = g
+four_words a b c d l h e f g k (suc (suc (suc zero))) = k
+four_words a b c d l h e f g k (suc (suc (suc (suc i)))) = sym (get_or-eq_default l 0 (omega arith))
