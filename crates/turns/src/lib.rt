@@ -47,23 +47,18 @@ fn lengthened(behind: Behind, token: u16, mark: u16) -> Behind
     requires few_turns { behind.turns < 9223372036854775808 }
     ensures { Lengthens mark token behind result }
 {
+    let mut next = behind;
     match token {
-        t if t == mark => Behind {
-            turns: behind.turns + usize::from(behind.counted),
-            ..behind
-        },
-        t if t == mark + CLOSING => Behind {
-            closed: true,
-            counted: false,
-            ..behind
-        },
+        t if t == mark => next.turns += usize::from(behind.counted),
+        t if t == mark + CLOSING => {
+            next.closed = true;
+            next.counted = false;
+        }
         // a byte
-        256..=511 => Behind {
-            counted: behind.closed,
-            ..behind
-        },
-        _ => behind,
+        256..=511 => next.counted = behind.closed,
+        _ => {}
     }
+    next
 }
 
 // From the end of the row to its front, so that what an opening waits for has been seen.

@@ -9,7 +9,7 @@ use Rattle.turns.proofs.Tokens.{opened, closed, byte, passed}
 use Rattle.turns.proofs.lengthened.Goals as goal
 
 pub returns-then-t-mark : goal.returns-then-t-mark
-returns-then-t-mark c = λ row s. opened s (omega arith) c.if-t-mark.true refl _ (rw c.from.ensures (go c.args.behind.counted))
+returns-then-t-mark c = λ row s. opened s (omega arith) (omega (arith, c.if-t-mark.true)) refl _ (rw c.from.ensures (go c.args.behind.counted))
   where
     go : (b : Bool) → c.args.behind.turns + bool_byte b ≡ cond b 1 0 + c.args.behind.turns
     go true = omega arith
