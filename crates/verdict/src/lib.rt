@@ -4,6 +4,7 @@
 ghost use Rattle.meaning.specs.Promise.{Verdict};
 ghost use Rattle.verdict.specs.Suffice.{Suffice};
 
+use tree::outcome::{flag, number};
 use tree::room::CELLS;
 use tree::search::search;
 
@@ -13,11 +14,8 @@ fn judged(pattern: &[u8], text: &[u8], cells: &mut [u64]) -> u32
     ensures { Verdict pattern.now text.now result }
 {
     let mut room = [0u16; 1];
-    match search(pattern, text, cells, &mut room) {
-        Ok(tree) if tree.other => 11,
-        Ok(_) => 0,
-        Err(refusal) => refusal.number(),
-    }
+    let found = search(pattern, text, cells, &mut room);
+    if flag(found) == 1 { 11 } else { number(found) }
 }
 
 // 0 for exactly one tree, 11 for more than one, else the number of the refusal. The cells are the call's own, few for a short text, since

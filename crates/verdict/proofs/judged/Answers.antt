@@ -1,12 +1,10 @@
 -- `verdict::judged` meets its contract. Assumes nothing.
-use Rattle.verdict.proofs.Verdicts.{searched_verdict}
+use mathlib.Core.Path.{sym, ◌∙◌}
+use Rattle.verdict.proofs.Verdicts.{verdict_several, verdict_told}
 use Rattle.verdict.proofs.judged.Goals as goal
 
-pub returns-in-Ok : goal.returns-in-Ok
-returns-in-Ok c = rw c.if-tree.true at (searched_verdict c.requires c.in-Ok.ensures)
+pub returns-then-flag-eq1 : goal.returns-then-flag-eq1
+returns-then-flag-eq1 c = verdict_several c.requires c.search-found.ensures (sym c.flag.ensures ∙ c.if-flag-eq1.true)
 
-pub returns-in-Ok-2 : goal.returns-in-Ok-2
-returns-in-Ok-2 c = rw c.if-tree.false at (searched_verdict c.requires c.in-Ok.ensures)
-
-pub returns-in-Err : goal.returns-in-Err
-returns-in-Err c = rw c.number.ensures (searched_verdict c.requires c.in-Err.ensures)
+pub returns-else-flag-eq1 : goal.returns-else-flag-eq1
+returns-else-flag-eq1 c = verdict_told c.requires c.search-found.ensures (λ z. c.if-flag-eq1.false (c.flag.ensures ∙ z)) c.number.ensures
