@@ -102,6 +102,7 @@ module _ {e : Re} {pattern : ReadPattern} {txt cells : List ℕ} {root : ℕ} (W
         e = e;
         guided = walk_guided G;
         along = stands.along;
+        used = k.used;
         few = K.few;
         kept = kept;
         left = omega (arith, S.read);
@@ -111,7 +112,7 @@ module _ {e : Re} {pattern : ReadPattern} {txt cells : List ℕ} {root : ℕ} (W
       }
 
       pub walk_glided : {t₁ : List ℕ} {g' : Stand} → Glided txt cells ts k t t₁ g g' → Came e txt t₀ t₁ s₀ (stood g') i₀ g'.read
-      walk_glided D = came_then stands (D.goes e (walk_guided G) kept stands.along)
+      walk_glided D = came_then stands (D.goes e k.used (walk_guided G) kept stands.along)
 
   module _ {t : List ℕ} {s : Stand} (h : s.read < length txt) (A : Along e txt t (stood s) s.read) where
     inside : s.position < size e

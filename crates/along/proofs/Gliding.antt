@@ -24,7 +24,7 @@ use Rattle.along.specs.declared.links.Links.{Links}
 use Rattle.along.specs.declared.stand.Stand.{Stand}
 use Rattle.along.specs.Along.{Along, Came}
 use Rattle.along.specs.Glide.{Guided, Recalled, Recalls}
-use Rattle.along.specs.Links.{Leads, link_at, PlaceOf, Kept, pool_limit}
+use Rattle.along.specs.Links.{Leads, link_at, PlaceOf, KeptIn, pool_limit}
 use Rattle.along.specs.Stand.{stood}
 use Rattle.along.proofs.Along.{along_more, along_few}
 use Rattle.along.proofs.Coming.{along_room}
@@ -76,14 +76,14 @@ module _ {e : Re} {txt cells : List ℕ} {ts : List Set} (G : Guided e txt cells
             let l : has goal q ≡ true = goal_living q ∙ ap (λ (m : ℕ). alive e (drop m txt) q) (add-one s.read) ∙ k in
             (q, near_follows q ∙ rw (i, l) refl)
 
-    module _ (K : Kept e k) where
+    module _ {used : ℕ} (K : KeptIn e k.keys k.links k.pool used) where
       abbrev here : Link
       here = link_at k.links p
 
-      leads : Leads (way e s.position goal) k.pool k.used here
+      leads : Leads (way e s.position goal) k.pool used here
       leads = kept_link s.position near goal G.fair few near_follows p member.0 K within T.place member.1 T.same
 
-      pub glide_recalls : k.used ≤ pool_limit → length k.pool ≡ 1024 → Recalls here k.pool s
+      pub glide_recalls : used ≤ pool_limit → length k.pool ≡ 1024 → Recalls here k.pool s
       glide_recalls u n =
           let i : In 0 e s.position = (omega arith, omega (arith, within)) in
           let l = resume_run_room 0 0 e s.position (has goal) false i in

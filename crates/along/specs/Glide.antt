@@ -13,7 +13,7 @@ use Rattle.along.specs.declared.links.Link.{Link}
 use Rattle.along.specs.declared.links.Links.{Links}
 use Rattle.along.specs.declared.stand.Stand.{Stand}
 use Rattle.along.specs.Along.{Along, Goes}
-use Rattle.along.specs.Links.{Kept, pool_limit}
+use Rattle.along.specs.Links.{KeptIn, pool_limit}
 use Rattle.along.specs.Rows.{Shows, Below, Beyond}
 use Rattle.along.specs.Stand.{stood}
 
@@ -33,8 +33,9 @@ pub record Glides (text cells : List ℕ) (ts : List Set) (k : Links) (t : List 
   pub e : Re
   pub guided : Guided e text cells ts
   pub along : Along e text t (stood s) s.read
-  pub few : k.used ≤ pool_limit
-  pub kept : Kept e k
+  pub used : ℕ
+  pub few : used ≤ pool_limit
+  pub kept : KeptIn e k.keys k.links k.pool used
   pub left : s.read < length text
   pub all_keys : rows k.keys ≡ 256
   pub all_links : length k.links ≡ 256
@@ -44,7 +45,7 @@ pub record Glides (text cells : List ℕ) (ts : List Set) (k : Links) (t : List 
 pub record Glided (text cells : List ℕ) (ts : List Set) (k : Links) (t t' : List ℕ) (s r : Stand) : Type 0 where
   pub on : s.read ≤ r.read
   pub left : r.read < length text
-  pub goes : (e : Re) → Guided e text cells ts → Kept e k → Goes e text t t' (stood s) (stood r) s.read r.read
+  pub goes : (e : Re) (used : ℕ) → Guided e text cells ts → KeptIn e k.keys k.links k.pool used → Goes e text t t' (stood s) (stood r) s.read r.read
 
 -- the way l leads to a position, its row stands in the pool, and there is room to count
 pub record Recalls (l : Link) (pool : List ℕ) (s : Stand) : Type 0 where

@@ -4,7 +4,7 @@ ghost use Rattle.meaning.specs.Expression.{Re};
 ghost use Rattle.kinds.specs.Nodes.{kinds_of, args_of};
 ghost use Rattle.sets.specs.Members.{limit};
 ghost use Rattle.walks.specs.Root.{Root};
-ghost use Rattle.tree.specs.Judge.{Given, Blank, Prepared};
+ghost use Rattle.tree.specs.Judge.{Given, Blank, Bare, Prepared};
 
 use kinds::ReadPattern;
 use passes::masks::masks;
@@ -25,7 +25,8 @@ pub struct Reader {
 impl Reader {
     // Tables with nothing in them.
     pub fn blank() -> Reader
-        ensures { Blank result }
+        ensures blank { Blank result }
+        ensures bare { Bare result }
     {
         let none = Set::empty();
         Reader {

@@ -13,7 +13,7 @@ use Rattle.along.proofs.glide.glide.Goals.{In-loop-s, Else-not-same}
 came : (c : In-loop-s)
     → let now = c.loop-s in
     Came c.requires.e c.args.text.now c.args.tree.now now.tree (stood c.args.s) (stood now.s) c.args.s.read now.s.read
-came c = let asked = c.requires in c.loop-s.invariant.2 asked.e asked.guided asked.kept asked.along
+came c = let asked = c.requires in c.loop-s.invariant.2 asked.e asked.used asked.guided asked.kept asked.along
 
 -- the position where it stands
 inside : (c : In-loop-s) → c.loop-s.s.position < limit
@@ -55,8 +55,8 @@ loop-s-preserved c =
     let came-to = c.loop-s.invariant in (
       omega (arith, recalled.read),
       omega (arith, recalled.read, came-to.1),
-      λ e g k a.
-          let x = came-to.2 e g k a in
+      λ e u g k a.
+          let x = came-to.2 e u g k a in
           came_then x (glide_came g x.along (turn place.Else-not-same) (more place.In-loop-s) k recalled (omega arith)),
     )
 
