@@ -24,8 +24,8 @@ fn read_full(from: &mut impl Read, buf: &mut [u8]) -> io::Result<usize>
 
 fn main(rt: HostRuntime) -> io::Result<()> {
     let mut input = [0u8; TAKEN];
-    let n = read_full(&mut rt.stdin(), &mut input)?;
     let mut out = [0u8; ROOM];
+    let n = read_full(&mut rt.stdin(), &mut input)?;
     let m = desk_lines(&input[..n], &mut out);
     rt.write_all(&out[..m])
 }

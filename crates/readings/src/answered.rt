@@ -23,9 +23,18 @@ pub fn row(got: Outcome, room: &[u16]) -> Option<&[u16]> {
     room.get(..got.ok()?.length)
 }
 
+// The line of an answer, as the desk writes it.
+fn answer_line(rt: &impl Print, got: Outcome) -> io::Result<()> {
+    let mut out = [0u8; 70];
+    let mut line = Writer::new(&mut out);
+    line.answer_line(number(got) as usize, value(got), flag(got));
+    let end = line.len();
+    rt.write_all(&out[..end])
+}
+
 // An answer of the first tree.
 pub fn show(rt: &impl Print, got: Outcome, room: &[u16]) -> io::Result<()> {
-    println!(rt; "ANSWER {} {} {}", number(got), value(got), flag(got))?;
+    answer_line(rt, got)?;
     match row(got, room) {
         Some(row) => tree_line(rt, row),
         None => Ok(()),

@@ -23,7 +23,8 @@ fn judged(
     show(rt, got, room)
 }
 
-// With all that is lent.
+// With all that is lent. It keeps its own frame, so that no other has what it lends.
+#[inline(never)]
 fn ample(rt: &impl Print, pattern: &[u8], text: &[u8]) -> io::Result<()> {
     judged(rt, pattern, text, &mut [0; CELLS], &mut [0; TOKENS])
 }
