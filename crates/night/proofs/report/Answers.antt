@@ -1,5 +1,6 @@
 -- `night::report` meets its contract. Assumes nothing.
 use Rattle.std.proofs.Common.{◌≤◌, arith, length, refl}
+use borrow.Author.Rules.{rules}
 use Rattle.std.proofs.lemmas.Result.{err_from_is_err_and}
 use Rattle.meaning.specs.Expression.{Re}
 use Rattle.meaning.specs.Limits.{text_limit}
@@ -18,7 +19,7 @@ short c = omega arith
 -- and judged
 answered : (c : After-told) (e : Re) → Prepared e c.args.pattern.now c.args.reader.now
     → Judged e c.args.text.now c.args.tree.now (number_of c.told.result) (value_of c.told.result) (flag_of c.told.result) c.seek.new.tree
-answered c e p = told_judged c.seek.result c.told.ensures (c.seek.ensures.seeks e p).sought
+answered c e p = told_judged c.seek.result (search rules) (c.seek.ensures.seeks e p).sought
 
 pub returns-in_err-found-clause-reported : goal.returns-in_err-found-clause-reported
 returns-in_err-found-clause-reported c e p =

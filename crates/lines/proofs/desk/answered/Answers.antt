@@ -1,9 +1,10 @@
 -- `lines::desk::answered` meets its contract. Assumes nothing.
-use mathlib.Core.Path.{refl}
+use mathlib.Core.Path.{◌≡◌, refl}
 use native.Mathlib.Omega.{arith}
 use Prim.Native.Nat.{◌≤◌}
 use lib.ListN.{take, length-take}
 use borrow.Author.Rules.{rules}
+use Rattle.std.specs.Prelude.{Ok}
 use Rattle.meaning.specs.Desk.{answer_line, desk_lines}
 use Rattle.tree.specs.Outcome.{number_of, value_of, flag_of}
 use Rattle.lines.specs.Wrote.{longest}
@@ -14,12 +15,12 @@ use Rattle.lines.proofs.desk.answered.Goals as goal
 use Rattle.lines.proofs.desk.answered.Goals.{in-Ok, in_default}
 
 pub slice_bounds-room-end : goal.slice_bounds-room-end
-slice_bounds-room-end c = tree_fits c.first_tree-got.result c.first_tree-got.ensures c.in-Ok.is
+slice_bounds-room-end c = tree_fits c.first_tree-got.result {tree = c.in-Ok.tree} c.first_tree-got.ensures (search rules)
 
 pub slice_bounds-tree_line-end : goal.slice_bounds-tree_line-end
 slice_bounds-tree_line-end c =
     let got = c.first_tree-got in
-    omega (arith, tree_fits got.result got.ensures c.in-Ok.is, length-take c.in-Ok.tree.length got.new.tree)
+    omega (arith, tree_fits got.result {tree = c.in-Ok.tree} got.ensures (search rules), length-take c.in-Ok.tree.length got.new.tree)
 
 pub returns : goal.returns
 returns c =
@@ -31,7 +32,7 @@ returns c =
     let f = flag_of got in
     let first : Puts c.new-lines.result (answer_line n v f) c.answer_line.new.self = rw (c.number.ensures, c.value.ensures, c.flag.ensures) at c.answer_line.ensures.puts in
     let both : Puts c.new-lines.result (desk_lines n v f (take v room)) lines × (lines.at ≤ longest) = elim c.match-got.branch [
-      | in-Ok w ↦ rw (w.lines-is, w.in-Ok.is) (puts_tree _ _ _ _ refl (rw w.in-Ok.is at first) w.tree_line.ensures.puts, omega (arith, length-take w.in-Ok.tree.length room))
+      | in-Ok w ↦ let is : got ≡ Ok w.in-Ok.tree = search rules in rw (w.lines-is, is) (puts_tree _ _ _ _ refl (rw is at first) w.tree_line.ensures.puts, omega (arith, length-take w.in-Ok.tree.length room))
       | in_default w ↦ rw w.lines-is (puts_refusal n v f (take v room) (no_tree got w.in_default.not-Ok) first, search rules)
     ] in
     let front = c.new-lines.ensures in

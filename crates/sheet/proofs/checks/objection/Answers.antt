@@ -17,7 +17,7 @@ returns-then-lengths-gt-REPORT_LIMIT c =
     ])
 
 pub returns-then-records-marks : goal.returns-then-records-marks
-returns-then-records-marks c = to_marks (omega arith) (added c.add_up.ensures c.if-not-add_up.false) (elim c.then-records-marks.either [ inl d ↦ inl d | inr d ↦ inr d.1 ])
+returns-then-records-marks c = to_marks (omega arith) (added c.add_up.ensures c.if-not-add_up.false) (elim c.then-records-marks.either [ inl d ↦ inl (λ z. omega arith) | inr d ↦ inr (λ z. omega (arith, d.1)) ])
 
 pub returns-then-greatest-gt-LAST_LIMIT : goal.returns-then-greatest-gt-LAST_LIMIT
 returns-then-greatest-gt-LAST_LIMIT c = to_last (omega arith) (added c.add_up.ensures c.if-not-add_up.false) (omega arith) (omega arith) (omega arith)

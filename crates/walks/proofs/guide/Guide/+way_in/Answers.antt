@@ -1,5 +1,6 @@
 -- The walk into a node: each part stands below it, and the run of a node comes from the runs of its parts.
 use Rattle.std.proofs.Common.{refl, arith}
+use borrow.Author.Rules.{rules}
 use Rattle.walks.proofs.Parts.{above_one, above_two, eps_at, pos_at, cat_at, alt_at, star_opt_of, branch_plus_of}
 use Rattle.walks.proofs.Looks.{scanned_to}
 use Rattle.walks.proofs.Entering.{ready_mark, ready_put, ready_part, ready_close, ready_left, ready_alt, ready_on}
@@ -67,19 +68,19 @@ enter-returns-else-open_to t c =
     c.open_to.ensures c.if-open_to.false c.enter-else-open_to.ensures
 
 pub enter-overflow_sub-i-in-Star : goal.enter-overflow_sub-i-in-Star
-enter-overflow_sub-i-in-Star t c = above_one (star_opt_of _ _ c.in-Star.is).0 c.requires.ready.holds
+enter-overflow_sub-i-in-Star t c = above_one (star_opt_of c.args.self.pattern.now.node c.args.i {mark = c.in-Star.mark} (search rules)).0 c.requires.ready.holds
 
 pub enter-turn-requires : goal.enter-turn-requires
 enter-turn-requires t c =
     let ready = c.requires.ready in
-    let one = (star_opt_of _ _ c.in-Star.is).0 in (
+    let one = (star_opt_of c.args.self.pattern.now.node c.args.i {mark = c.in-Star.mark} (search rules)).0 in (
       omega (arith, c.decreases, above_one one ready.holds),
       (ready_part ready one _ refl, scanned_to c.requires.scanned (omega arith)),
     )
 
 pub enter-returns-in-Star : goal.enter-returns-in-Star
 enter-returns-in-Star t c =
-    let one = star_opt_of _ _ c.in-Star.is in
+    let one = star_opt_of c.args.self.pattern.now.node c.args.i {mark = c.in-Star.mark} (search rules) in
     enters_loop _ _ c.requires.scanned one.0 one.1 c.turn.ensures
 
 pub enter-put-b-requires : goal.enter-put-b-requires
