@@ -1,13 +1,12 @@
 -- One byte of the walk along a text by the walk from the root, and the walk's beginning and end. Assumes nothing.
 use mathlib.Core.Path.{◌≡◌, refl, sym, ap, ◌∙◌}
-use mathlib.Core.Bool.{Bool, true, ◌||◌, or_comm}
+use mathlib.Core.Bool.{Bool, ◌||◌, or_comm}
 use mathlib.Core.List.{List, [], ◌∷◌}
 use Prim.Native.Nat.{ℕ, suc, ◌+◌, ◌≤◌, ◌<◌}
 use native.Mathlib.Omega.{arith}
 use lib.Dec.{eqb}
-use lib.ListN.{length, get_or, set, drop}
-use lib.Seq.{drop-length}
-use borrow.Author.Tests.{ne_eqb}
+use lib.ListN.{length, get_or, set, drop, length-drop}
+use borrow.Author.Tests.{eq-eqb, ne_eqb}
 use Rattle.meaning.specs.Expression.{Re, marks, size}
 use Rattle.meaning.specs.Tree.{letter}
 use Rattle.kinds.specs.Nodes.{kinds_of, args_of}
@@ -47,11 +46,13 @@ turned (at p) m v w = ap (Stopped p m) (or_comm v w)
 put_eta : (t : ℕ) (R : Run) → put t R ≡ run (t ∷ row_of R) (out_of R) (other_of R)
 put_eta t (run ρ o w) = refl
 
--- the last byte is the one before the end
-pub ended_all : (txt : List ℕ) (i : ℕ) → i ≡ length txt → true ≡ ended (drop i txt)
-ended_all txt i z =
-    let none : drop i txt ≡ [] = rw z (drop-length txt) in
-    rw none refl
+-- behind the last byte the text has ended
+pub ended_at : (txt : List ℕ) (i : ℕ) → i ≤ length txt → eqb i (length txt) ≡ ended (drop i txt)
+ended_at txt i h = go (drop i txt) refl
+  where
+    go : (l : List ℕ) → drop i txt ≡ l → eqb i (length txt) ≡ ended l
+    go [] e = eq-eqb i (length txt) (omega (arith, length-drop i txt, ap length e))
+    go (x ∷ l) e = ne_eqb i (length txt) (λ z. omega (arith, length-drop i txt, ap length e))
 
 pub ended_zero : (txt : List ℕ) → eqb (length txt) 0 ≡ ended txt
 ended_zero [] = refl
@@ -61,7 +62,7 @@ module _ {e : Re} {pattern : ReadPattern} {txt cells : List ℕ} {root : ℕ} (W
   few : marks e ≤ 127
   few = omega (arith, W.few)
 
-  pub walk_guided : {ns : List Bool} {fs : List Set} {us : List ℕ} {ts : List Set} → Charted (kinds_of pattern.node) (args_of pattern.node) ns fs us ts root → Guided e txt cells ts
+  pub walk_guided : {ns : List ℕ} {fs : List Set} {us : List ℕ} {ts : List Set} → Charted (kinds_of pattern.node) (args_of pattern.node) ns fs us ts root → Guided e txt cells ts
   walk_guided C = record {
     fair = W.fair;
     few = W.few;
@@ -84,7 +85,7 @@ module _ {e : Re} {pattern : ReadPattern} {txt cells : List ℕ} {root : ℕ} (W
       beyond_less _ (written_beyond t₀ (row_of (enter_run 0 0 e (has goal) last)) 0 k.row) (omega (arith, wrote_cursor k))
 
   -- a glide from where it stands while a byte is left
-  module _ {ns : List Bool} {fs : List Set} {us : List ℕ} {ts : List Set} (G : Charted (kinds_of pattern.node) (args_of pattern.node) ns fs us ts root) {t₀ t : List ℕ} {s₀ s : Step} {i₀ i : ℕ} {g : Stand} (C : Came e txt t₀ t s₀ s i₀ i) (h : i < length txt)
+  module _ {ns : List ℕ} {fs : List Set} {us : List ℕ} {ts : List Set} (G : Charted (kinds_of pattern.node) (args_of pattern.node) ns fs us ts root) {t₀ t : List ℕ} {s₀ s : Step} {i₀ i : ℕ} {g : Stand} (C : Came e txt t₀ t s₀ s i₀ i) (h : i < length txt)
       (S : Stands s i g) where
     stands : Came e txt t₀ t s₀ (stood g) i₀ g.read
     stands = came_at (go s refl) (sym S.read) C

@@ -4,6 +4,7 @@ use mathlib.Core.Bool.{◌||◌}
 use mathlib.Core.List.{List, [], ◌∷◌}
 use Prim.Native.Nat.{ℕ, ◌+◌, ◌≤◌, ◌<◌}
 use native.Mathlib.Omega.{arith}
+use lib.Dec.{eqb}
 use lib.Lanes.{put_chunk}
 use lib.ListN.{length, get_or, set}
 use Rattle.std.proofs.lemmas.Simd.{length-put_chunk, get_or-put_chunk_below, get_or-put_chunk_at, get_or-put_chunk_above}
@@ -38,7 +39,7 @@ module _ (l : Link) (pool t : List ℕ) (b : ℕ) (s : Stand) {t₁ t' : List �
       rest : Shows t' (s.at + 1) ρ
       rest = rw (← y) (laid_shows ρ (rw (← n) at L) (omega arith) S)
 
-  pub recalled : {r : Stand} → r.read ≡ s.read + 1 → r.position ≡ l.position → r.at ≡ c + l.long → r.other ≡ (s.other || l.other) → Recalled l pool b t t' spare s r
+  pub recalled : {r : Stand} → r.read ≡ s.read + 1 → r.position ≡ l.position → r.at ≡ c + l.long → r.other ≡ (s.other || eqb l.other 1) → Recalled l pool b t t' spare s r
   recalled i j k o = record {
     read = i;
     step = rw (j, k, y, o) refl;

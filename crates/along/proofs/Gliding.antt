@@ -5,6 +5,7 @@ use mathlib.Core.List.{List}
 use Prim.Native.Nat.{ℕ, suc, ◌+◌, ◌-◌, ◌≤◌, ◌<◌}
 use native.Mathlib.Numerals.{add-one}
 use native.Mathlib.Omega.{arith}
+use lib.Dec.{eqb}
 use lib.ListN.{length, get_or, drop}
 use Rattle.meaning.specs.Expression.{Re, marks, size}
 use Rattle.positions.specs.Alive.{alive, alive_at, alive_in, ended_at}
@@ -19,6 +20,7 @@ use Rattle.sets.specs.declared.set.Set.{Set}
 use Rattle.sets.specs.Members.{has, held, limit, row, Alike}
 use Rattle.walks.specs.declared.step.Step.TheVariants.{Stopped}
 use Rattle.walks.specs.Steps.{cursor, step_of}
+use Rattle.walks.specs.Tables.{flag}
 use Rattle.along.specs.declared.links.Link.{Link}
 use Rattle.along.specs.declared.links.Links.{Links}
 use Rattle.along.specs.declared.stand.Stand.{Stand}
@@ -30,6 +32,11 @@ use Rattle.along.proofs.Along.{along_more, along_few}
 use Rattle.along.proofs.Coming.{along_room}
 use Rattle.along.proofs.Linking.{kept_link, resume_within}
 use Rattle.along.proofs.Standing.{beyond_less}
+
+-- 1 says yes, and 0 no
+flag_back : (w : Bool) → eqb (flag w) 1 ≡ w
+flag_back true = refl
+flag_back false = refl
 
 -- the run towards a goal that is not the last
 abbrev way : Re → ℕ → Set → Run
@@ -98,11 +105,11 @@ module _ {e : Re} {txt cells : List ℕ} {ts : List Set} (G : Guided e txt cells
             next = omega (arith, G.short);
           }
 
-      led : Stopped here.position (s.at + 1 + here.long) (s.other || here.other)
+      led : Stopped here.position (s.at + 1 + here.long) (s.other || eqb here.other 1)
           ≡ step_of (out_of (way e s.position goal)) (s.at + suc (length (row_of (way e s.position goal)))) (s.other || other_of (way e s.position goal))
       led =
           let m : s.at + 1 + here.long ≡ s.at + suc (length (row_of (way e s.position goal))) = omega (arith, leads.long_is) in
-          rw (leads.out, leads.other, m) refl
+          rw (leads.out, leads.other, flag_back _, m) refl
 
       -- the byte is read, and its way gone
       pub glide_came : {t' : List ℕ} {spare : ℕ} {r : Stand} → Recalled here k.pool (get_or txt s.read 0) t t' spare s r → spare ≤ length txt - (s.read + 1)

@@ -22,6 +22,7 @@ use Rattle.sets.specs.Members.{has, none, row, Alike, Stored}
 use Rattle.walks.specs.declared.step.Step.{Step}
 use Rattle.walks.specs.declared.step.Step.TheVariants.{Passed, Stopped}
 use Rattle.walks.specs.Steps.{cursor, Wrote}
+use Rattle.walks.specs.Tables.{flag}
 use Rattle.along.specs.declared.links.Link.{Link}
 use Rattle.along.specs.declared.links.Links.{Links}
 use Rattle.along.specs.Links.{Leads, link_at, PlaceOf, PlaceFor, KeptIn, Keeps}
@@ -43,14 +44,14 @@ leads_on {R = R} {l = l} L B h = record {
 pub kept_on : {e : Re} {keys : List Set} {links : List Link} {t t' : List ℕ} {c c' : ℕ} → KeptIn e keys links t c → Below t t' c → c ≤ c' → KeptIn e keys links t' c'
 kept_on K B h = record { link = λ j s p i k y. leads_on (K.link j s p i k y) B h }
 
-leads_new : {t t' : List ℕ} {c c' q : ℕ} {w : Bool} {r : Step} (R : Run) → Wrote t t' c r R → r ≡ Stopped q c' w → Leads R t' c' (record { position = q; from = c; long = c' - c; other = w })
+leads_new : {t t' : List ℕ} {c c' q : ℕ} {w : Bool} {r : Step} (R : Run) → Wrote t t' c r R → r ≡ Stopped q c' w → Leads R t' c' (record { position = q; from = c; long = c' - c; other = flag w })
 leads_new (run ρ pass v) W z = absurd (apart (sym W.step ∙ z))
 leads_new {t} {t'} {c} {c'} {q} {w} (run ρ (at p) v) W z =
     let a : Stopped p (c + length ρ) v ≡ Stopped q c' w = sym W.step ∙ z in
     let i : p ≡ q = cc in
     let j : c + length ρ ≡ c' = cc in
     let k : w ≡ v = cc in
-    record { out = ap at i; long_is = omega arith; other = k; past = omega arith; row = written_shows t ρ c W.row }
+    record { out = ap at i; long_is = omega arith; other = ap flag k; past = omega arith; row = written_shows t ρ c W.row }
 
 -- ---- the places
 

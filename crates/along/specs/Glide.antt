@@ -1,5 +1,5 @@
 -- What a glide along ways that are kept asks and does. Assumes nothing: these are definitions.
-use Rattle.std.specs.Prelude.{◌≡◌, ◌||◌, List, ◌∷◌, ℕ, ◌+◌, ◌≤◌, ◌<◌, ◌^◌, length, drop}
+use Rattle.std.specs.Prelude.{◌≡◌, ◌||◌, List, ◌∷◌, ℕ, ◌+◌, ◌≤◌, ◌<◌, ◌^◌, eqb, length, drop}
 use Rattle.meaning.specs.Expression.{Re, marks, size}
 use Rattle.meaning.specs.Limits.{text_limit, mark_limit}
 use Rattle.meaning.specs.Tree.{letter}
@@ -58,7 +58,7 @@ pub record Recalls (l : Link) (pool : List ℕ) (s : Stand) : Type 0 where
 -- from where s stands the byte b is read and the way l is gone; the next `spare` tokens may be spoilt
 pub record Recalled (l : Link) (pool : List ℕ) (b : ℕ) (t t' : List ℕ) (spare : ℕ) (s r : Stand) : Type 0 where
   pub read : r.read ≡ s.read + 1
-  pub step : stood r ≡ Stopped l.position (s.at + 1 + l.long) (s.other || l.other)
+  pub step : stood r ≡ Stopped l.position (s.at + 1 + l.long) (s.other || eqb l.other 1)
   pub below : Below t t' s.at
   pub row : (ρ : List ℕ) → length ρ ≡ l.long → Shows pool l.from ρ → Shows t' s.at (letter b ∷ ρ)
   pub beyond : Beyond t t' (s.at + 1 + l.long + spare)

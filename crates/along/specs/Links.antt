@@ -16,6 +16,7 @@ use Rattle.walks.specs.declared.tables.Tables.{Tables}
 use Rattle.walks.specs.Resume.{Placed}
 use Rattle.walks.specs.Root.{Charted}
 use Rattle.walks.specs.Steps.{Wrote}
+use Rattle.walks.specs.Tables.{flag}
 use Rattle.along.specs.declared.links.Link.{Link}
 use Rattle.along.specs.declared.links.Links.{Links}
 use Rattle.along.specs.Rows.{Shows}
@@ -28,13 +29,13 @@ pool_limit = 1016
 pub record Leads (R : Run) (t : List ℕ) (c : ℕ) (l : Link) : Type 0 where
   pub out : out_of R ≡ at l.position
   pub long_is : l.long ≡ length (row_of R)
-  pub other : l.other ≡ other_of R
+  pub other : l.other ≡ flag (other_of R)
   pub past : l.from + l.long ≤ c
   pub row : Shows t l.from (row_of R)
 
 -- the way at place s
 abbrev pub link_at : List Link → ℕ → Link
-link_at links s = get_or links s (record { position = 0; from = 0; long = 0; other = false })
+link_at links s = get_or links s (record { position = 0; from = 0; long = 0; other = 0 })
 
 -- s is one of the four places of position j
 pub record PlaceOf (j s : ℕ) : Type 0 where
@@ -91,7 +92,7 @@ pub record Keeps (s : ℕ) (goal : Set) (from new : ℕ) (u r : Step) (k k' : Li
   pub same_used : k'.used ≡ k.used
   pub passed : (c : ℕ) (w : Bool) → u ≡ Passed c w → (k'.keys ≡ k.keys) × (k'.links ≡ k.links)
   pub stopped : (q c : ℕ) (w : Bool) → u ≡ Stopped q c w
-      → Stored goal s k.keys k'.keys × (k'.links ≡ set k.links s (record { position = q; from = from; long = c - from; other = w }))
+      → Stored goal s k.keys k'.keys × (k'.links ≡ set k.links s (record { position = q; from = from; long = c - from; other = flag w }))
 
 -- the way on from position j to the goal or, if `last`, to the end is gone, whatever the root holds
 pub record Went (pattern : ReadPattern) (root j : ℕ) (goal : Set) (last : Bool) (t t' : List ℕ) (from : ℕ) (r : Step) : Type 0 where

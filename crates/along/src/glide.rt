@@ -19,7 +19,7 @@ fn recall(way: &Link, pool: &[u16; 1024], b: u8, tree: &mut [u16], s: Stand, spa
         read: s.read + 1,
         position: usize::from(way.position),
         at: next + long,
-        other: s.other || way.other,
+        other: s.other || way.other == 1,
     }
 }
 

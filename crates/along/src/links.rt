@@ -1,6 +1,6 @@
 // Links: the ways on from a position that a walk has gone are kept, so that `glide` can go them again. Their rows stand in a pool of their own,
 // so what is kept serves for every text of a pattern.
-ghost use Rattle.std.specs.Prelude.{◌≡◌, false, ℕ, ◌+◌, ◌-◌, ◌≤◌, ◌<◌, ◌^◌, length};
+ghost use Rattle.std.specs.Prelude.{◌≡◌, ℕ, ◌+◌, ◌-◌, ◌≤◌, ◌<◌, ◌^◌, length};
 ghost use Rattle.kinds.specs.declared.ReadPattern.{ReadPattern};
 ghost use Rattle.sets.specs.Members.{limit, rows};
 ghost use Rattle.walks.specs.Steps.{cursor};
@@ -15,14 +15,14 @@ use walks::step::Step;
 // How many tokens of the pool may be used: from each of them eight can be read at once.
 pub const POOL: usize = 1016;
 
-// A way on that is kept: before which position it stops, where its row begins in the pool, how long that is, whether another way was open.
-// All fit 16 bits, so the table is small.
+// A way on that is kept: before which position it stops, where its row begins in the pool, how long that is, and whether another way was open:
+// 1 where one was, 0 where none was; any other number stands only where nothing is kept, and means no. All have 16 bits, so the table is small.
 #[derive(Clone, Copy)]
 pub struct Link {
     pub position: u16,
     pub from: u16,
     pub long: u16,
-    pub other: bool,
+    pub other: u16,
 }
 
 // The ways on that are kept: for each place the goal of the way that is kept there, and the way; their rows, and how many tokens of these are used.
@@ -54,7 +54,7 @@ impl Links {
                 position: 0,
                 from: 0,
                 long: 0,
-                other: false,
+                other: 0,
             }; 256],
             pool: [0; 1024],
             used: 0,
@@ -78,31 +78,42 @@ impl Links {
                     position: q as u16,
                     from: from as u16,
                     long: long as u16,
-                    other: w,
+                    other: u16::from(w),
                 };
                 Step::Stopped(q, at + long, w)
             }
         }
     }
 
-    // Goes on from position q to the goal, as `resume` does from the root, and keeps the way for the positions of the goal that may follow q:
-    // which marks are written depends on them alone. Where the pool has no room for its row, all is forgotten.
-    pub fn onward(&mut self, chart: Chart, q: usize, goal: Set, tree: &mut [u16], at: usize) -> Step
+    // Goes on from position q to the goal or, if `last`, to the end, as `resume` does from the root. Unless `last`, keeps the way for the
+    // positions of the goal that may follow q: which marks are written depends on them alone. Where the pool has no room for its row, all is
+    // forgotten.
+    pub fn onward(
+        &mut self,
+        chart: Chart,
+        q: usize,
+        goal: Set,
+        last: bool,
+        tree: &mut [u16],
+        at: usize,
+    ) -> Step
         requires linked { Linked chart.pattern.now chart.root q at }
         requires charted { ChartedBy chart.tables.now chart.pattern.now chart.root }
         requires stock { Stock chart.pattern.now chart.root self.old }
-        ensures went { Went chart.entry.pattern.now chart.entry.root q goal false tree.old tree.new at result }
+        ensures went { Went chart.entry.pattern.now chart.entry.root q goal last tree.old tree.new at result }
         ensures stocked { Stock chart.entry.pattern.now chart.entry.root self.new }
     {
+        let guide = chart.guide();
+        if last {
+            return guide.resume(chart.root, q, goal, true, tree, at);
+        }
         let from = self.used;
-        let u = chart
-            .guide()
-            .resume(chart.root, q, goal, false, &mut self.pool, from);
+        let u = guide.resume(chart.root, q, goal, false, &mut self.pool, from);
         let end = Stand::after(u, 0).at;
         if POOL < end {
             self.keys.fill(Set::empty());
             self.used = 0;
-            return chart.guide().resume(chart.root, q, goal, false, tree, at);
+            return guide.resume(chart.root, q, goal, false, tree, at);
         }
         copy(&self.pool, from, end - from, tree, at);
         self.used = end;

@@ -36,14 +36,8 @@ fn advance(
     let next = s.read + 1;
     let at = put(tree, s.at, letter(text[s.read]));
     let goal = Set::load(cells, next);
-    let q = s.position;
-    if next == text.len() {
-        return chart
-            .guide()
-            .resume(chart.root, q, goal, true, tree, at)
-            .also(s.other);
-    }
-    kept.onward(chart, q, goal, tree, at).also(s.other)
+    kept.onward(chart, s.position, goal, next == text.len(), tree, at)
+        .also(s.other)
 }
 
 // Writes the row of the first tree, as far as it fits: by ways that were gone before, in this text or another, where they are kept, and else

@@ -7,11 +7,12 @@ ghost use Rattle.kinds.specs.Words.{no_byte};
 
 use sets::class::Class;
 
-// A node of a read pattern: a node without parts is an eps or a pos, one with two parts a cat or an alt; the others have one part. Beside it stands
-// a number: the position, the node of the left part, or the mark. The other part is the node before.
+// A node of a read pattern: a node without parts is an eps or a pos, one with two parts a cat or an alt, one with one part a branch, star, plus or
+// opt. Beside it stands a number: the position, the node of the left part, or the mark; beside an eps it says nothing. The other part is the node
+// before. `Other` is in no pattern: where no node of one stands, a row that is lent may hold anything, so a kind past 7 too, less 8, with a number.
 #[derive(Clone, Copy, PartialEq, Eq)]
 pub enum Node {
-    Eps,
+    Eps(u16),
     Pos(u16),
     Cat(u16),
     Alt(u16),
@@ -19,6 +20,7 @@ pub enum Node {
     Star(u16),
     Plus(u16),
     Opt(u16),
+    Other(u8, u16),
 }
 
 impl Node {
@@ -33,6 +35,7 @@ impl Node {
             Node::Star(_) => Node::Star(mark),
             Node::Plus(_) => Node::Plus(mark),
             Node::Opt(_) => Node::Opt(mark),
+            Node::Other(past, _) => Node::Other(past, mark),
             _ => self,
         }
     }
@@ -59,7 +62,7 @@ impl ReadPattern {
         ensures marks { result.marks ≡ 0 }
     {
         ReadPattern {
-            node: [Node::Eps; 1024],
+            node: [Node::Eps(0); 1024],
             class: [Class::none(); 64],
             nodes: 0,
             positions: 0,

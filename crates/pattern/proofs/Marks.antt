@@ -136,12 +136,12 @@ pub record Remarked (ks gs ks' gs' : List ℕ) (i v : ℕ) : Type 0 where
   pub kinds : ks' ≡ ks
   pub args : gs' ≡ set gs i v
 
-pub remarked : (ns : List Node) (i : ℕ) (x : Node) {v : ℕ} → 4 ≤ get_or (kinds_of ns) i 0 → kind_of x ≡ kind_of (get_or ns i Eps)
-    → (4 ≤ kind_of (get_or ns i Eps) → arg_of x ≡ v) → Remarked (kinds_of ns) (args_of ns) (kinds_of (set ns i x)) (args_of (set ns i x)) i v
+pub remarked : (ns : List Node) (i : ℕ) (x : Node) {v : ℕ} → 4 ≤ get_or (kinds_of ns) i 0 → kind_of x ≡ kind_of (get_or ns i (Eps 0))
+    → (4 ≤ kind_of (get_or ns i (Eps 0)) → arg_of x ≡ v) → Remarked (kinds_of ns) (args_of ns) (kinds_of (set ns i x)) (args_of (set ns i x)) i v
 remarked ns i x g k a = record {
   marked = g;
   kinds = kinds_same ns i x k;
-  args = args_set ns i x ∙ ap (λ (w : ℕ). set (args_of ns) i w) (a (omega (arith, g, kind_at ns i (get_or ns i Eps) refl)));
+  args = args_set ns i x ∙ ap (λ (w : ℕ). set (args_of ns) i w) (a (omega (arith, g, kind_at ns i (get_or ns i (Eps 0)) refl)));
 }
 
 -- node i has a mark, and its part lies before it

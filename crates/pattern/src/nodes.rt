@@ -60,7 +60,7 @@ impl Cursor {
         ensures became { Became result (self.at + 2) (self.used + 1) self.positions self.marks }
         ensures put { Put self.used 0 0 (stores read.old) (stores read.new) }
     {
-        put(read, self.used, Node::Eps);
+        put(read, self.used, Node::Eps(0));
         Cursor {
             at: self.at + 2,
             used: self.used + 1,
@@ -140,7 +140,7 @@ pub fn number(nodes: &mut [Node; 1024], i: usize, m: u16) -> u16
 {
     let node = nodes[i];
     match node {
-        Node::Eps | Node::Pos(_) => m,
+        Node::Eps(_) | Node::Pos(_) => m,
         Node::Cat(left) | Node::Alt(left) => {
             let n = number(nodes, left as usize, m);
             number(nodes, i - 1, n)

@@ -22,6 +22,7 @@ use Rattle.passes.specs.Ways.{readable}
 use Rattle.passes.proofs.Longest.{readable_longest}
 use Rattle.sets.specs.declared.set.Set.{Set}
 use Rattle.sets.specs.Members.{has, held, row, meets}
+use Rattle.walks.specs.Tables.{yes}
 use Rattle.walks.specs.Enter.{open_to}
 use Rattle.walks.proofs.Looks.{open_is}
 use Rattle.std.proofs.Common.{Ok, Err}
@@ -54,7 +55,7 @@ module _ {e : Re} {pattern : ReadPattern} {r : Reader} {text cells : List ℕ} (
 
   -- whether the root is open to the first cell says whether there is a tree
   pub found_is : {goal : Set} {b : Bool} → goal ≡ row (held cells) 0
-      → b ≡ open_to (meets (row r.tables.nodes.first (pattern.nodes - 1)) goal) (get_or r.tables.nodes.null (pattern.nodes - 1) false) (eqb (length text) 0) → b ≡ found e text
+      → b ≡ open_to (meets (row r.tables.nodes.first (pattern.nodes - 1)) goal) (yes (get_or r.tables.nodes.null (pattern.nodes - 1) 0)) (eqb (length text) 0) → b ≡ found e text
   found_is {goal} g i =
       open_is J.prepared.charted.scanned (omega arith) goal (eqb (length text) 0) i rooted.holds
       ∙ ap₂ (λ (l b : Bool). l || (nullable e && b)) (leads_same 0 e (has goal) (alive e text) (λ q. ap (λ (u : Set). has u q) g ∙ J.living 0 q (omega arith))) (ended_zero text)

@@ -1,5 +1,5 @@
 -- What the parts of the search ask and what they find. Assumes nothing: these are definitions.
-use Rattle.std.specs.Prelude.{◌≡◌, false, List, ℕ, ◌-◌, ◌≤◌, ◌<◌, length, drop, replicate}
+use Rattle.std.specs.Prelude.{◌≡◌, List, ℕ, ◌-◌, ◌≤◌, ◌<◌, length, drop, replicate}
 use Rattle.meaning.specs.Expression.{Re, marks, size}
 use Rattle.meaning.specs.Grammar.{Bytes}
 use Rattle.meaning.specs.Limits.{text_limit, mark_limit, position_limit, cells_for}
@@ -52,7 +52,7 @@ pub record Blank (r : Reader) : Type 0 where
 
 -- and no table has anything in it
 pub record Bare (r : Reader) : Type 0 where
-  pub nulls : r.tables.nodes.null ≡ replicate 1024 false
+  pub nulls : r.tables.nodes.null ≡ replicate 1024 0
   pub firsts : r.tables.nodes.first ≡ replicate 1024 none
   pub uptos : r.tables.nodes.upto ≡ replicate 1024 0
   pub follows : r.tables.follow ≡ replicate limit none

@@ -32,7 +32,7 @@ impl Reader {
         Reader {
             tables: Tables {
                 nodes: Openings {
-                    null: [false; 1024],
+                    null: [0; 1024],
                     first: [none; 1024],
                     upto: [0; 1024],
                 },

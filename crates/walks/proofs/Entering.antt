@@ -17,6 +17,7 @@ use Rattle.sets.specs.declared.set.Set.{Set}
 use Rattle.sets.specs.Members.{has, meets, row}
 use Rattle.walks.specs.declared.step.Step.{Step}
 use Rattle.walks.specs.declared.step.Step.TheVariants.{Passed, Stopped}
+use Rattle.walks.specs.Tables.{yes}
 use Rattle.walks.specs.Steps.{cursor, noted, Wrote, After}
 use Rattle.walks.specs.Enter.{open_to, Ready, Scanned, EntersAt, OnAt, turning, TurnsAt}
 use Rattle.walks.proofs.Parts.{Leaf, leaf_eps, leaf_pos, One, one_branch, one_star, one_plus, one_opt, Two, two_cat, two_alt, Bare, Sole, Pair, one_sizes, two_sizes, leaf, single, double}
@@ -110,7 +111,7 @@ marked l b R e w = rw e at w
 
 -- ---- the walk of a node
 
-module _ {ks gs : List ℕ} {ns : List Bool} {fs : List Set} {i from : ℕ} (goal : Set) (pass : Bool) (T : Scanned ks gs ns fs i) where
+module _ {ks gs ns : List ℕ} {fs : List Set} {i from : ℕ} (goal : Set) (pass : Bool) (T : Scanned ks gs ns fs i) where
   pub enters_eps : {arg : ℕ} {t : List ℕ} → Bare ks gs i 0 arg → EntersAt ks gs i goal pass t t from (Passed from false)
   enters_eps N = record { wrote = λ e m p h. eps_run m (has goal) pass (leaf N h) refl }
 
@@ -128,7 +129,7 @@ module _ {ks gs : List ℕ} {ns : List Bool} {fs : List Set} {i from : ℕ} (goa
         rw (turn_run m p (has goal) pass s.is z) (wrote_then _ (closes m) (wrote_put (suc m) _ (E.wrote s.x (suc m) p s.part) q (u ∙ rw s.mark)) (rw s.mark at C));
   }
 
-  module _ {k arg : ℕ} {v : Bool} (N : Pair ks gs i k arg) (o : v ≡ open_to (meets (row fs (i - 1)) goal) (get_or ns (i - 1) false) pass) where
+  module _ {k arg : ℕ} {v : Bool} (N : Pair ks gs i k arg) (o : v ≡ open_to (meets (row fs (i - 1)) goal) (yes (get_or ns (i - 1) 0)) pass) where
     pub enters_cat : {t t₁ t₂ : List ℕ} {s r : Step} → k ≡ 2 → EntersAt ks gs arg goal v t t₁ from s → OnAt ks gs (i - 1) goal pass t₁ t₂ s r → EntersAt ks gs i goal pass t t₂ from r
     enters_cat z E F = record {
       wrote = λ e m p h.
@@ -137,7 +138,7 @@ module _ {ks gs : List ℕ} {ns : List Bool} {fs : List Set} {i from : ℕ} (goa
           rw (cat_run m p (has goal) pass d.is z, ← n) (wrote_then _ _ (E.wrote d.x m p d.left) (F.wrote d.y _ _ d.right));
     }
 
-    module _ {w : Bool} (z : k ≡ 3) (a : w ≡ open_to (meets (row fs arg) goal) (get_or ns arg false) pass) where
+    module _ {w : Bool} (z : k ≡ 3) (a : w ≡ open_to (meets (row fs arg) goal) (yes (get_or ns arg 0)) pass) where
       pub enters_left : {t t' : List ℕ} {s r : Step} → w ≡ true → EntersAt ks gs arg goal pass t t' from s → r ≡ noted v s → EntersAt ks gs i goal pass t t' from r
       enters_left y E u = record {
         wrote = λ e m p h.

@@ -9,7 +9,8 @@ use Rattle.meaning.specs.Expression.{Re, size}
 use Rattle.positions.specs.Tests.{nullable, leads}
 use Rattle.sets.specs.declared.set.Set.{Set}
 use Rattle.sets.specs.Members.{has}
-use Rattle.walks.specs.Tables.{NullAt, FirstAt, EndAt, leaf_first, two_first, end_of, leaf_end, two_end}
+use Rattle.walks.specs.Tables.{yes, NullAt, FirstAt, EndAt, leaf_first, two_first, end_of, leaf_end, two_end}
+use Rattle.walks.proofs.Nulls.{yes_flag}
 use Rattle.walks.proofs.Parts.{Leaf, leaf_eps, leaf_pos, One, one_branch, one_star, one_plus, one_opt, Two, two_cat, two_alt, Bare, Sole, Pair, one_sizes, two_sizes, leaf, single, double}
 
 -- ---- first positions
@@ -44,12 +45,12 @@ module _ {ks gs : List ℕ} {i k arg : ℕ} {s : Set} where
   pub first_at_one : Sole ks gs i k arg → FirstAt ks gs (i - 1) s → FirstAt ks gs i s
   first_at_one N f = record { has_firsts = λ e m p h q. let v = single N h in f.has_firsts v.x _ _ v.part q ∙ sym (leads_one p (eqb q) v.is) }
 
-  pub first_at_two : {n : Bool} {u v : Set} → Pair ks gs i k arg → NullAt ks gs arg n → FirstAt ks gs arg u → FirstAt ks gs (i - 1) v
-      → ((q : ℕ) → has s q ≡ two_first k n (has u q) (has v q)) → FirstAt ks gs i s
+  pub first_at_two : {n : ℕ} {u v : Set} → Pair ks gs i k arg → NullAt ks gs arg n → FirstAt ks gs arg u → FirstAt ks gs (i - 1) v
+      → ((q : ℕ) → has s q ≡ two_first k (yes n) (has u q) (has v q)) → FirstAt ks gs i s
   first_at_two N O f f' w = record {
     has_firsts = λ e m p h q.
         let d = double N h in
-        w q ∙ rw (O d.x _ _ d.left, f.has_firsts d.x _ _ d.left q, f'.has_firsts d.y _ _ d.right q) (leads_two p (eqb q) d.is);
+        w q ∙ rw (O d.x _ _ d.left, yes_flag (nullable d.x), f.has_firsts d.x _ _ d.left q, f'.has_firsts d.y _ _ d.right q) (leads_two p (eqb q) d.is);
   }
 
 -- ---- where the positions end

@@ -17,9 +17,10 @@ use Rattle.positions.specs.Sets.{firsts, follows_in, ends_in, ends_inside, ends_
 use Rattle.bits.specs.Truth.{both}
 use Rattle.sets.specs.declared.set.Set.{Set}
 use Rattle.sets.specs.Members.{has, row, rows}
-use Rattle.walks.specs.Tables.{Filled}
+use Rattle.walks.specs.Tables.{Filled, yes}
 use Rattle.walks.specs.Enter.{Scanned}
 use Rattle.walks.specs.Follow.{next_of, last_of, FollowAt, FollowsAt}
+use Rattle.walks.proofs.Nulls.{yes_flag}
 use Rattle.walks.proofs.Parts.{Leaf, leaf_eps, leaf_pos, One, one_branch, one_star, one_plus, one_opt, Two, two_cat, two_alt, Bare, Sole, Pair, one_sizes, two_sizes, leaf, single, double}
 use Rattle.walks.proofs.Fill.{Put, filled_none, filled_put, filled_then, filled_at, filled_as}
 
@@ -129,23 +130,23 @@ module _ {ks gs : List ℕ} {i arg : ℕ} {after ends : Set} {end : Bool} where
       → Put rows row arg after t t' → ((j : ℕ) → has r j ≡ (has ends j || (eqb j arg && end))) → FollowsAt ks gs i after end t t' ends r
   follows_pos {r = r} N u f = record { filled = λ e m p h. pos_rows after ends end (leaf N h) refl u; ended = λ e m p h. pos_ends after ends end r (leaf N h) refl f }
 
-  module _ {k : ℕ} {ns : List Bool} {fs : List Set} {next : Set} (T : Scanned ks gs ns fs i) (w : (q : ℕ) → has next q ≡ next_of k (has (row fs (i - 1)) q) (get_or ns (i - 1) false) (has after q)) where
+  module _ {k : ℕ} {ns : List ℕ} {fs : List Set} {next : Set} (T : Scanned ks gs ns fs i) (w : (q : ℕ) → has next q ≡ next_of k (has (row fs (i - 1)) q) (yes (get_or ns (i - 1) 0)) (has after q)) where
     pub follows_one : {t t' : List Set} {r : Set} → Sole ks gs i k arg → FollowsAt ks gs (i - 1) next end t t' ends r → FollowsAt ks gs i after end t t' ends r
     follows_one N F = record {
       filled = λ e m p h.
           let s = single N h in
           let f = (T.first (i - 1) (omega arith)).has_firsts s.x (suc m) p s.part in
           filled_at refl (ap (λ (n : ℕ). p + n) (sym (one_sizes s.is).size_is))
-          (filled_as (λ j a b v g. record { has_follows = λ q. g.has_follows q ∙ rw (w q, f q) (next_one p (get_or ns (i - 1) false) (has after q) j q s.is) }) (F.filled s.x (suc m) p s.part));
+          (filled_as (λ j a b v g. record { has_follows = λ q. g.has_follows q ∙ rw (w q, f q) (next_one p (yes (get_or ns (i - 1) 0)) (has after q) j q s.is) }) (F.filled s.x (suc m) p s.part));
       ended = λ e m p h j. let s = single N h in F.ended s.x (suc m) p s.part j ∙ rw (last_one p end j s.is);
     }
 
-    pub follows_two : {last : Bool} {t t₁ t₂ : List Set} {seen r : Set} → Pair ks gs i k arg → last ≡ last_of k (get_or ns (i - 1) false) end
+    pub follows_two : {last : Bool} {t t₁ t₂ : List Set} {seen r : Set} → Pair ks gs i k arg → last ≡ last_of k (yes (get_or ns (i - 1) 0)) end
         → FollowsAt ks gs arg next last t t₁ ends seen → FollowsAt ks gs (i - 1) after end t₁ t₂ seen r → FollowsAt ks gs i after end t t₂ ends r
     follows_two {last = last} N z F G = record {
       filled = λ e m p h.
           let d = double N h in
-          let n = T.null (i - 1) (omega arith) d.y _ _ d.right in
+          let n = ap yes (T.null (i - 1) (omega arith) d.y _ _ d.right) ∙ yes_flag (nullable d.y) in
           let f = (T.first (i - 1) (omega arith)).has_firsts d.y _ _ d.right in
           filled_at refl (omega (arith, (two_sizes d.is).size_is))
           (filled_then p (p + size d.x) (p + size d.x + size d.y) (omega arith) (omega arith)
@@ -153,7 +154,7 @@ module _ {ks gs : List ℕ} {i arg : ℕ} {after ends : Set} {end : Bool} where
           (filled_as (λ j a b v g. record { has_follows = λ x. g.has_follows x ∙ next_right p (has after x) j x d.is a }) (G.filled d.y _ _ d.right)));
       ended = λ e m p h j.
           let d = double N h in
-          let n = T.null (i - 1) (omega arith) d.y _ _ d.right in
+          let n = ap yes (T.null (i - 1) (omega arith) d.y _ _ d.right) ∙ yes_flag (nullable d.y) in
           G.ended d.y _ _ d.right j
           ∙ rw (F.ended d.x _ _ d.left j, or_assoc (has ends j) (ends_in p d.x last j) (ends_in (p + size d.x) d.y end j), z, n, last_two p end j d.is);
     }

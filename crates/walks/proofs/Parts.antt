@@ -7,7 +7,7 @@ use Prim.Native.Nat.{ℕ, suc, ◌+◌, ◌-◌, ◌<◌, ◌≤◌}
 use native.Mathlib.Omega.{arith}
 use lib.ListN.{get_or}
 use Rattle.kinds.specs.declared.Node.{Node}
-use Rattle.kinds.specs.declared.Node.TheVariants.{Eps, Pos, Cat, Alt, Branch, Star, Plus, Opt}
+use Rattle.kinds.specs.declared.Node.TheVariants.{Eps, Pos, Cat, Alt, Branch, Star, Plus, Opt, Other}
 use Rattle.kinds.specs.Nodes.{kind_of, arg_of, kinds_of, args_of}
 use Rattle.kinds.proofs.NodeLaws.{kind_at, arg_at}
 use Rattle.meaning.specs.Expression.{Re, eps, pos, cat, alt, branch, star, plus, opt, marks, size}
@@ -64,6 +64,17 @@ pub record Double (ks gs : List ℕ) (m p i k arg : ℕ) (e : Re) : Type 0 where
   pub left : Holds ks gs m p arg x
   pub right : Holds ks gs (m + marks x) (p + size x) (i - 1) y
 
+-- a node that holds an expression is of one of eight kinds
+pub eight_kinds : {ks gs : List ℕ} {m p i : ℕ} {e : Re} → Holds ks gs m p i e → get_or ks i 0 < 8
+eight_kinds (h_eps n) = omega (arith, n.kind)
+eight_kinds (h_pos n a) = omega (arith, n.kind)
+eight_kinds (h_cat b x y) = omega (arith, b.node.kind)
+eight_kinds (h_alt b x y) = omega (arith, b.node.kind)
+eight_kinds (h_branch u x) = omega (arith, u.node.kind)
+eight_kinds (h_star u x) = omega (arith, u.node.kind)
+eight_kinds (h_plus u x) = omega (arith, u.node.kind)
+eight_kinds (h_opt u x) = omega (arith, u.node.kind)
+
 module _ {ks gs : List ℕ} {m p i k arg : ℕ} where
   unary : {n : ℕ} {x e : Re} → Sole ks gs i k arg → Unary ks gs i n (suc m) → Holds ks gs (suc m) p (i - 1) x → One n x e → Single ks gs m p i k arg e
   unary {x = x} N u h o = record { x = x; is = rw (sym N.kind, u.node.kind) o; above = u.above; mark = sym N.beside ∙ u.mark; part = h }
@@ -115,9 +126,9 @@ module _ {ks gs : List ℕ} {m p i k arg : ℕ} where
 module _ (ns : List Node) (i : ℕ) where
   -- node i is x
   abbrev Here : Node → Type 0
-  Here x = get_or ns i Eps ≡ x
+  Here x = get_or ns i (Eps 0) ≡ x
 
-  pub eps_at : Here Eps → Bare (kinds_of ns) (args_of ns) i 0 0
+  pub eps_at : {arg : ℕ} → Here (Eps arg) → Bare (kinds_of ns) (args_of ns) i 0 arg
   eps_at e = record { kind = kind_at ns i _ e; beside = arg_at ns i _ e; none = omega arith }
 
   pub pos_at : {q : ℕ} → Here (Pos q) → Bare (kinds_of ns) (args_of ns) i 1 q
@@ -129,39 +140,51 @@ module _ (ns : List Node) (i : ℕ) where
   pub alt_at : {left : ℕ} → Here (Alt left) → Pair (kinds_of ns) (args_of ns) i 3 left
   alt_at e = record { kind = kind_at ns i _ e; beside = arg_at ns i _ e; from_two = omega arith; to_three = omega arith }
 
-  pub pair_at : {left : ℕ} → Here (Cat left) ⊎ Here (Alt left) → Pair (kinds_of ns) (args_of ns) i (kind_of (get_or ns i Eps)) left
+  pub pair_at : {left : ℕ} → Here (Cat left) ⊎ Here (Alt left) → Pair (kinds_of ns) (args_of ns) i (kind_of (get_or ns i (Eps 0))) left
   pair_at (inl e) = rw e (cat_at e)
   pair_at (inr e) = rw e (alt_at e)
 
   -- one of two kinds, both of one part, under the same mark
   sole_at : {x y : Node} {mark : ℕ} → 3 < kind_of x → 3 < kind_of y → arg_of x ≡ mark → arg_of y ≡ mark → Here x ⊎ Here y
-      → Sole (kinds_of ns) (args_of ns) i (kind_of (get_or ns i Eps)) mark × ((kind_of (get_or ns i Eps) ≡ kind_of x) ⊎ (kind_of (get_or ns i Eps) ≡ kind_of y))
+      → Sole (kinds_of ns) (args_of ns) i (kind_of (get_or ns i (Eps 0))) mark × ((kind_of (get_or ns i (Eps 0)) ≡ kind_of x) ⊎ (kind_of (get_or ns i (Eps 0)) ≡ kind_of y))
   sole_at k k' a a' (inl e) = (record { kind = kind_at ns i _ refl; beside = arg_at ns i _ e ∙ a; one = rw e k }, inl (ap kind_of e))
   sole_at k k' a a' (inr e) = (record { kind = kind_at ns i _ refl; beside = arg_at ns i _ e ∙ a'; one = rw e k' }, inr (ap kind_of e))
 
-  -- any kind of one part
+  -- any of a kind, whatever stands beside it; of no kind that a pattern has
   abbrev Some : (ℕ → Node) → Type 0
   Some of = (x : ℕ) × Here (of x)
 
-  one_at : {x : Node} → 3 < kind_of x → Here x → Sole (kinds_of ns) (args_of ns) i (kind_of (get_or ns i Eps)) (arg_of (get_or ns i Eps))
+  abbrev Strange : Type 0
+  Strange = (x : ℕ) × (y : ℕ) × Here (Other x y)
+
+  no_part : Strange → get_or (kinds_of ns) i 0 < 8 → ⊥
+  no_part s h = omega (arith, h, kind_at ns i _ s.2)
+
+  one_at : {x : Node} → 3 < kind_of x → Here x → Sole (kinds_of ns) (args_of ns) i (kind_of (get_or ns i (Eps 0))) (arg_of (get_or ns i (Eps 0)))
   one_at k e = record { kind = kind_at ns i _ refl; beside = arg_at ns i _ refl; one = rw e k }
 
-  pub any_at : Some Branch ⊎ (Some Star ⊎ (Some Plus ⊎ Some Opt)) → Sole (kinds_of ns) (args_of ns) i (kind_of (get_or ns i Eps)) (arg_of (get_or ns i Eps))
+  pub any_at : Some Branch ⊎ (Some Star ⊎ (Some Plus ⊎ Some Opt)) → Sole (kinds_of ns) (args_of ns) i (kind_of (get_or ns i (Eps 0))) (arg_of (get_or ns i (Eps 0)))
   any_at (inl e) = one_at (omega arith) e.1
   any_at (inr (inl e)) = one_at (omega arith) e.1
   any_at (inr (inr (inl e))) = one_at (omega arith) e.1
   any_at (inr (inr (inr e))) = one_at (omega arith) e.1
 
-  pub leaf_at : Here Eps ⊎ Some Pos → Bare (kinds_of ns) (args_of ns) i (kind_of (get_or ns i Eps)) (arg_of (get_or ns i Eps))
-  leaf_at (inl e) = rw e (eps_at e)
-  leaf_at (inr e) = rw e.1 (pos_at e.1)
+  -- where node i holds an expression: an eps; a node of no part
+  pub empty_at : Some Eps ⊎ Strange → get_or (kinds_of ns) i 0 < 8 → Bare (kinds_of ns) (args_of ns) i 0 (arg_of (get_or ns i (Eps 0)))
+  empty_at (inl e) h = rw e.1 (eps_at e.1)
+  empty_at (inr s) h = absurd (no_part s h)
+
+  pub leaf_at : Some Eps ⊎ (Some Pos ⊎ Strange) → get_or (kinds_of ns) i 0 < 8 → Bare (kinds_of ns) (args_of ns) i (kind_of (get_or ns i (Eps 0))) (arg_of (get_or ns i (Eps 0)))
+  leaf_at (inl e) h = rw e.1 (eps_at e.1)
+  leaf_at (inr (inl e)) h = rw e.1 (pos_at e.1)
+  leaf_at (inr (inr s)) h = absurd (no_part s h)
 
   -- a node of two parts is one of the two
   pub two_at : 2 ≤ get_or (kinds_of ns) i 0 → get_or (kinds_of ns) i 0 ≤ 3 → Some Cat ⊎ Some Alt
-  two_at k k' = go (get_or ns i Eps) refl
+  two_at k k' = go (get_or ns i (Eps 0)) refl
     where
-      go : (x : Node) → get_or ns i Eps ≡ x → Some Cat ⊎ Some Alt
-      go Eps e = absurd (omega (arith, kind_at ns i Eps e))
+      go : (x : Node) → get_or ns i (Eps 0) ≡ x → Some Cat ⊎ Some Alt
+      go (Eps a) e = absurd (omega (arith, kind_at ns i (Eps a) e))
       go (Pos q) e = absurd (omega (arith, kind_at ns i (Pos q) e))
       go (Cat left) e = inl (left, e)
       go (Alt left) e = inr (left, e)
@@ -169,30 +192,31 @@ module _ (ns : List Node) (i : ℕ) where
       go (Star mark) e = absurd (omega (arith, kind_at ns i (Star mark) e))
       go (Plus mark) e = absurd (omega (arith, kind_at ns i (Plus mark) e))
       go (Opt mark) e = absurd (omega (arith, kind_at ns i (Opt mark) e))
+      go (Other past a) e = absurd (omega (arith, kind_at ns i (Other past a) e))
 
   -- the kinds that some arm has together
   pub star_plus_at : Some Star ⊎ Some Plus
-      → Sole (kinds_of ns) (args_of ns) i (kind_of (get_or ns i Eps)) (arg_of (get_or ns i Eps)) × ((kind_of (get_or ns i Eps) ≡ 5) ⊎ (kind_of (get_or ns i Eps) ≡ 6))
+      → Sole (kinds_of ns) (args_of ns) i (kind_of (get_or ns i (Eps 0))) (arg_of (get_or ns i (Eps 0))) × ((kind_of (get_or ns i (Eps 0)) ≡ 5) ⊎ (kind_of (get_or ns i (Eps 0)) ≡ 6))
   star_plus_at (inl e) = (one_at (omega arith) e.1, inl (ap kind_of e.1))
   star_plus_at (inr e) = (one_at (omega arith) e.1, inr (ap kind_of e.1))
 
   pub branch_opt_at : Some Branch ⊎ Some Opt
-      → Sole (kinds_of ns) (args_of ns) i (kind_of (get_or ns i Eps)) (arg_of (get_or ns i Eps)) × ((kind_of (get_or ns i Eps) ≡ 4) ⊎ (kind_of (get_or ns i Eps) ≡ 7))
+      → Sole (kinds_of ns) (args_of ns) i (kind_of (get_or ns i (Eps 0))) (arg_of (get_or ns i (Eps 0))) × ((kind_of (get_or ns i (Eps 0)) ≡ 4) ⊎ (kind_of (get_or ns i (Eps 0)) ≡ 7))
   branch_opt_at (inl e) = (one_at (omega arith) e.1, inl (ap kind_of e.1))
   branch_opt_at (inr e) = (one_at (omega arith) e.1, inr (ap kind_of e.1))
 
   -- and with their mark
   module _ {mark : ℕ} where
-    pub star_opt_of : Here (Star mark) ⊎ Here (Opt mark) → Sole (kinds_of ns) (args_of ns) i (kind_of (get_or ns i Eps)) mark × ((kind_of (get_or ns i Eps) ≡ 5) ⊎ (kind_of (get_or ns i Eps) ≡ 7))
+    pub star_opt_of : Here (Star mark) ⊎ Here (Opt mark) → Sole (kinds_of ns) (args_of ns) i (kind_of (get_or ns i (Eps 0))) mark × ((kind_of (get_or ns i (Eps 0)) ≡ 5) ⊎ (kind_of (get_or ns i (Eps 0)) ≡ 7))
     star_opt_of = sole_at (omega arith) (omega arith) refl refl
 
-    pub branch_plus_of : Here (Branch mark) ⊎ Here (Plus mark) → Sole (kinds_of ns) (args_of ns) i (kind_of (get_or ns i Eps)) mark × ((kind_of (get_or ns i Eps) ≡ 4) ⊎ (kind_of (get_or ns i Eps) ≡ 6))
+    pub branch_plus_of : Here (Branch mark) ⊎ Here (Plus mark) → Sole (kinds_of ns) (args_of ns) i (kind_of (get_or ns i (Eps 0))) mark × ((kind_of (get_or ns i (Eps 0)) ≡ 4) ⊎ (kind_of (get_or ns i (Eps 0)) ≡ 6))
     branch_plus_of = sole_at (omega arith) (omega arith) refl refl
 
-    pub star_plus_of : Here (Star mark) ⊎ Here (Plus mark) → Sole (kinds_of ns) (args_of ns) i (kind_of (get_or ns i Eps)) mark × ((kind_of (get_or ns i Eps) ≡ 5) ⊎ (kind_of (get_or ns i Eps) ≡ 6))
+    pub star_plus_of : Here (Star mark) ⊎ Here (Plus mark) → Sole (kinds_of ns) (args_of ns) i (kind_of (get_or ns i (Eps 0))) mark × ((kind_of (get_or ns i (Eps 0)) ≡ 5) ⊎ (kind_of (get_or ns i (Eps 0)) ≡ 6))
     star_plus_of = sole_at (omega arith) (omega arith) refl refl
 
-    pub branch_opt_of : Here (Branch mark) ⊎ Here (Opt mark) → Sole (kinds_of ns) (args_of ns) i (kind_of (get_or ns i Eps)) mark × ((kind_of (get_or ns i Eps) ≡ 4) ⊎ (kind_of (get_or ns i Eps) ≡ 7))
+    pub branch_opt_of : Here (Branch mark) ⊎ Here (Opt mark) → Sole (kinds_of ns) (args_of ns) i (kind_of (get_or ns i (Eps 0))) mark × ((kind_of (get_or ns i (Eps 0)) ≡ 4) ⊎ (kind_of (get_or ns i (Eps 0)) ≡ 7))
     branch_opt_of = sole_at (omega arith) (omega arith) refl refl
 
 -- how many nodes, positions and marks a node has, from its parts

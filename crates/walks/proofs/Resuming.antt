@@ -23,7 +23,7 @@ use Rattle.sets.specs.declared.set.Set.{Set}
 use Rattle.sets.specs.Members.{has, meets, row}
 use Rattle.walks.specs.declared.step.Step.{Step}
 use Rattle.walks.specs.declared.step.Step.TheVariants.{Passed}
-use Rattle.walks.specs.Tables.{Known, number, EndAt, end_of}
+use Rattle.walks.specs.Tables.{Known, number, EndAt, end_of, yes}
 use Rattle.walks.specs.Steps.{cursor, Wrote, After}
 use Rattle.walks.specs.Enter.{open_to, Ready, Scanned, OnAt}
 use Rattle.walks.specs.Resume.{Placed, ResumesAt, AgainAt}
@@ -44,7 +44,7 @@ pub end_read : {ks gs : List ℕ} {i l : ℕ} (us : List ℕ) → Known number (
 end_read {l = l} us U a = U l (omega arith)
 
 -- the tables of the nodes up to i are those of the nodes up to a node before it
-pub asked_to : {ks gs : List ℕ} {ns : List Bool} {fs : List Set} {i l : ℕ} (us : List ℕ) → Scanned ks gs ns fs i → Known number (EndAt ks gs) us i → l ≤ i → Scanned ks gs ns fs l × Known number (EndAt ks gs) us l
+pub asked_to : {ks gs ns : List ℕ} {fs : List Set} {i l : ℕ} (us : List ℕ) → Scanned ks gs ns fs i → Known number (EndAt ks gs) us i → l ≤ i → Scanned ks gs ns fs l × Known number (EndAt ks gs) us l
 asked_to us T U le = (scanned_to T le, λ n h. U n (omega arith))
 
 module _ {ks gs : List ℕ} {m p l v j : ℕ} {x : Re} (N : EndAt ks gs l v) (h : Holds ks gs m p l x) (low : p ≤ j) where
@@ -191,7 +191,7 @@ module _ {ks gs : List ℕ} {i j from : ℕ} (goal : Set) (pass : Bool) where
   pub resumes_leaf : {k arg : ℕ} {t : List ℕ} → Bare ks gs i k arg → ResumesAt ks gs i j goal pass t t from (Passed from false)
   resumes_leaf N = record { wrote = λ e m p h a. leaf_run m j (has goal) pass (leaf N h) }
 
-  pub resumes_again : {k arg : ℕ} {ns : List Bool} {fs : List Set} {t t₁ t₂ : List ℕ} {w : Bool} {s r : Step} → Sole ks gs i k arg → (k ≡ 5) ⊎ (k ≡ 6) → Scanned ks gs ns fs i → w ≡ (meets (row fs (i - 1)) goal || pass)
+  pub resumes_again : {k arg : ℕ} {ns : List ℕ} {fs : List Set} {t t₁ t₂ : List ℕ} {w : Bool} {s r : Step} → Sole ks gs i k arg → (k ≡ 5) ⊎ (k ≡ 6) → Scanned ks gs ns fs i → w ≡ (meets (row fs (i - 1)) goal || pass)
       → ResumesAt ks gs (i - 1) j goal w t t₁ from s → AgainAt ks gs (i - 1) arg goal pass t₁ t₂ s r → ResumesAt ks gs i j goal pass t t₂ from r
   resumes_again {fs = fs} N z T q E A = record {
     wrote = λ e m p h a.
@@ -229,7 +229,7 @@ module _ {ks gs : List ℕ} {i j from : ℕ} (goal : Set) (pass : Bool) where
             rw (alt_run m p j (has goal) pass d.is n c) (E.wrote d.x _ _ d.left (a.0, c));
       }
 
-      pub resumes_cat : {ns : List Bool} {fs : List Set} {t t₁ t₂ : List ℕ} {w : Bool} {s r : Step} → Scanned ks gs ns fs i → (k ≡ 2) → w ≡ open_to (meets (row fs (i - 1)) goal) (get_or ns (i - 1) false) pass
+      pub resumes_cat : {ns : List ℕ} {fs : List Set} {t t₁ t₂ : List ℕ} {w : Bool} {s r : Step} → Scanned ks gs ns fs i → (k ≡ 2) → w ≡ open_to (meets (row fs (i - 1)) goal) (yes (get_or ns (i - 1) 0)) pass
           → ResumesAt ks gs arg j goal w t t₁ from s → OnAt ks gs (i - 1) goal pass t₁ t₂ s r → ResumesAt ks gs i j goal pass t t₂ from r
       resumes_cat T n o E F = record {
         wrote = λ e m p h a.

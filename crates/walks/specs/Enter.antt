@@ -7,7 +7,7 @@ use Rattle.positions.specs.Runs.{Run, also, put, through, enter_run}
 use Rattle.sets.specs.declared.set.Set.{Set}
 use Rattle.sets.specs.Members.{has, row, rows}
 use Rattle.walks.specs.declared.step.Step.{Step}
-use Rattle.walks.specs.Tables.{Known, answer, NullAt, FirstAt}
+use Rattle.walks.specs.Tables.{Known, number, NullAt, FirstAt}
 use Rattle.walks.specs.Steps.{Wrote, After}
 
 -- l: the node leads to the goal; n: it may be passed
@@ -25,8 +25,8 @@ pub record Ready (ks gs : List ℕ) (i from : ℕ) : Type 0 where
   pub room : from + 2 * marks e < 2 ^ 64
 
 -- both tables are right at the nodes up to i
-pub record Scanned (ks gs : List ℕ) (ns : List Bool) (fs : List Set) (i : ℕ) : Type 0 where
-  pub null : Known answer (NullAt ks gs) ns i
+pub record Scanned (ks gs ns : List ℕ) (fs : List Set) (i : ℕ) : Type 0 where
+  pub null : Known number (NullAt ks gs) ns i
   pub first : Known row (FirstAt ks gs) fs i
   pub long : rows fs ≡ 1024
 

@@ -1,5 +1,5 @@
 -- Tables of the nodes of a read pattern. Assumes nothing: these are definitions.
-use Rattle.std.specs.Prelude.{◌≡◌, Bool, false, cond, ◌&&◌, ◌||◌, List, ℕ, suc, ◌+◌, ◌-◌, ◌<◌, ◌≤◌, eqb, get_or}
+use Rattle.std.specs.Prelude.{◌≡◌, Bool, cond, not, ◌&&◌, ◌||◌, List, ℕ, suc, ◌+◌, ◌-◌, ◌<◌, ◌≤◌, eqb, get_or}
 use Rattle.meaning.specs.Expression.{Re, size}
 use Rattle.meaning.specs.ReadPattern.{nodes}
 use Rattle.grammar.specs.Holds.{Holds}
@@ -34,15 +34,17 @@ Walked count entry Right ks gs i t t' = (e : Re) (m p : ℕ) → Holds ks gs m p
 abbrev pub number : List ℕ → ℕ → ℕ
 number t j = get_or t j 0
 
-abbrev pub answer : List Bool → ℕ → Bool
-answer t j = get_or t j false
-
+-- a yes is written as 1, a no as 0
 abbrev pub flag : Bool → ℕ
 flag b = cond b 1 0
 
+-- read, anything but 0 is a yes
+abbrev pub yes : ℕ → Bool
+yes v = not (eqb v 0)
+
 -- v says whether node i may be passed over no text, whatever it holds
-abbrev pub NullAt : List ℕ → List ℕ → ℕ → Bool → Type 0
-NullAt ks gs i v = (e : Re) (m p : ℕ) → Holds ks gs m p i e → v ≡ nullable e
+abbrev pub NullAt : List ℕ → List ℕ → ℕ → ℕ → Type 0
+NullAt ks gs i v = (e : Re) (m p : ℕ) → Holds ks gs m p i e → v ≡ flag (nullable e)
 
 -- the same by the kind of a node, from what is said of its parts
 unfoldable pub leaf_null : ℕ → Bool

@@ -18,7 +18,7 @@ impl Guide<'_> {
         ensures { EntersAt (kinds_of self.entry.pattern.now.node) (args_of self.entry.pattern.now.node) i goal pass tree.old tree.new at result }
     {
         match self.pattern.node[i] {
-            Node::Eps => Step::Passed(at, false),
+            Node::Eps(_) | Node::Other(..) => Step::Passed(at, false),
             Node::Pos(q) => Step::Stopped(q as usize, at, false),
             Node::Cat(left) => {
                 let more = self.opens.open_to(i - 1, goal, pass);

@@ -2,7 +2,7 @@
 ghost use Rattle.std.specs.Prelude.{◌≡◌, ℕ, length};
 ghost use Rattle.kinds.specs.Nodes.{kind_of, kinds_of, args_of};
 ghost use Rattle.sets.specs.Members.{has, rows, row};
-ghost use Rattle.walks.specs.Tables.{Held, Walked, Known, number, answer, NullAt, FirstAt, EndAt, two_first, two_end};
+ghost use Rattle.walks.specs.Tables.{Held, Walked, Known, number, NullAt, FirstAt, EndAt, two_first, two_end};
 
 use kinds::{Node, ReadPattern};
 use sets::set::Set;
@@ -32,13 +32,13 @@ fn end_two(x: u16, y: u16) -> u16
 // of its positions, 0 where it has none.
 pub fn opens_first(
     pattern: &ReadPattern,
-    null: &[bool; 1024],
+    null: &[u8; 1024],
     first: &mut [Set; 1024],
     upto: &mut [u16; 1024],
     i: usize,
 )
     requires held { Held (kinds_of pattern.now.node) (args_of pattern.now.node) i }
-    requires known { Known answer (NullAt (kinds_of pattern.now.node) (args_of pattern.now.node)) null.now i }
+    requires known { Known number (NullAt (kinds_of pattern.now.node) (args_of pattern.now.node)) null.now i }
     ensures walked_first { Walked rows row (FirstAt (kinds_of pattern.now.node) (args_of pattern.now.node))
         (kinds_of pattern.now.node) (args_of pattern.now.node) i first.old first.new }
     ensures long { rows first.new ≡ 1024 }
@@ -46,7 +46,7 @@ pub fn opens_first(
         (kinds_of pattern.now.node) (args_of pattern.now.node) i upto.old upto.new }
 {
     match pattern.node[i] {
-        Node::Eps => {
+        Node::Eps(_) | Node::Other(..) => {
             first[i] = Set::empty();
             upto[i] = 0;
         }
@@ -59,7 +59,7 @@ pub fn opens_first(
             let right = i - 1;
             opens_first(pattern, null, first, upto, left);
             opens_first(pattern, null, first, upto, right);
-            first[i] = first_two(pattern.node[i], null[left], first[left], first[right]);
+            first[i] = first_two(pattern.node[i], null[left] != 0, first[left], first[right]);
             upto[i] = end_two(upto[left], upto[right]);
         }
         Node::Branch(_) | Node::Star(_) | Node::Plus(_) | Node::Opt(_) => {

@@ -1,8 +1,8 @@
 // Which positions may follow a position, and which may be the last.
-ghost use Rattle.std.specs.Prelude.{◌≡◌, ◌&&◌, ◌||◌, false, ℕ, ◌<◌, get_or};
+ghost use Rattle.std.specs.Prelude.{◌≡◌, ◌&&◌, ◌||◌, ℕ, ◌<◌, get_or};
 ghost use Rattle.kinds.specs.Nodes.{kinds_of, args_of};
 ghost use Rattle.sets.specs.Members.{has, limit, rows, row};
-ghost use Rattle.walks.specs.Tables.{Held};
+ghost use Rattle.walks.specs.Tables.{Held, yes};
 ghost use Rattle.walks.specs.Enter.{Scanned};
 ghost use Rattle.walks.specs.Follow.{FollowsAt};
 
@@ -14,10 +14,10 @@ use sets::set::Set;
 // What may come where node j is next and then what `after` has: a first position of node j, and what comes after it if j may be passed.
 fn coming(opens: &Openings, j: usize, after: Set) -> Set
     requires { (j < rows opens.now.first) × (j < 1024) }
-    ensures { (q : ℕ) → has result q ≡ (has (row opens.now.first j) q || (get_or opens.now.null j false && has after q)) }
+    ensures { (q : ℕ) → has result q ≡ (has (row opens.now.first j) q || (yes (get_or opens.now.null j 0) && has after q)) }
 {
     let firsts = opens.first[j];
-    if opens.null[j] {
+    if opens.null[j] != 0 {
         firsts.union(after)
     } else {
         firsts
@@ -41,7 +41,7 @@ impl Guide<'_> {
         ensures follows { FollowsAt (kinds_of self.entry.pattern.now.node) (args_of self.entry.pattern.now.node) i after end follow.old follow.new ends result }
     {
         match self.pattern.node[i] {
-            Node::Eps => ends,
+            Node::Eps(_) | Node::Other(..) => ends,
             Node::Pos(q) => {
                 follow[q as usize] = after;
                 if end { ends.with(q as usize) } else { ends }
@@ -49,7 +49,7 @@ impl Guide<'_> {
             Node::Cat(left) => {
                 let right = i - 1;
                 let next = coming(self.opens, right, after);
-                let last = self.opens.null[right] && end;
+                let last = self.opens.null[right] != 0 && end;
                 let seen = self.may_follow(follow, left as usize, next, last, ends);
                 self.may_follow(follow, right, after, end, seen)
             }

@@ -1,6 +1,7 @@
 // Where a walk can go on: what the tables say of a node and a goal.
-ghost use Rattle.std.specs.Prelude.{◌≡◌, ◌||◌, ◌<◌, false, eqb, get_or};
+ghost use Rattle.std.specs.Prelude.{◌≡◌, ◌||◌, ◌<◌, get_or};
 ghost use Rattle.sets.specs.Members.{meets, row, rows};
+ghost use Rattle.walks.specs.Tables.{yes};
 ghost use Rattle.walks.specs.Enter.{open_to};
 
 use crate::tables::Openings;
@@ -27,8 +28,8 @@ impl Openings {
     #[tactic(auto, unfolding(crate::specs::Enter::open_to))]
     pub fn open_to(&self, j: usize, goal: Set, pass: bool) -> bool
         requires { (j < rows self.now.first) × (j < 1024) }
-        ensures { result ≡ open_to (meets (row self.now.first j) goal) (get_or self.now.null j false) pass }
+        ensures { result ≡ open_to (meets (row self.now.first j) goal) (yes (get_or self.now.null j 0)) pass }
     {
-        self.goes(j, goal) || self.null[j] && pass
+        self.goes(j, goal) || self.null[j] != 0 && pass
     }
 }

@@ -1,7 +1,7 @@
 // Which nodes may be passed over no text.
 ghost use Rattle.std.specs.Prelude.{◌≡◌, length};
 ghost use Rattle.kinds.specs.Nodes.{kind_of, kinds_of, args_of};
-ghost use Rattle.walks.specs.Tables.{Held, Walked, answer, NullAt, one_null, two_null};
+ghost use Rattle.walks.specs.Tables.{Held, Walked, number, NullAt, one_null, two_null};
 
 use kinds::{Node, ReadPattern};
 
@@ -24,26 +24,26 @@ fn null_two(node: Node, left: bool, right: bool) -> bool
     }
 }
 
-// Fills `null` for the nodes of the part at node i: whether a node may be passed over no text.
-pub fn may_be_empty(pattern: &ReadPattern, null: &mut [bool; 1024], i: usize)
+// Fills `null` for the nodes of the part at node i: 1 where a node may be passed over no text, else 0.
+pub fn may_be_empty(pattern: &ReadPattern, null: &mut [u8; 1024], i: usize)
     requires held { Held (kinds_of pattern.now.node) (args_of pattern.now.node) i }
-    ensures { Walked length answer (NullAt (kinds_of pattern.now.node) (args_of pattern.now.node))
+    ensures { Walked length number (NullAt (kinds_of pattern.now.node) (args_of pattern.now.node))
         (kinds_of pattern.now.node) (args_of pattern.now.node) i null.old null.new }
 {
     match pattern.node[i] {
-        Node::Eps => null[i] = true,
-        Node::Pos(_) => null[i] = false,
+        Node::Eps(_) | Node::Other(..) => null[i] = 1,
+        Node::Pos(_) => null[i] = 0,
         Node::Cat(left) | Node::Alt(left) => {
             let left = left as usize;
             let right = i - 1;
             may_be_empty(pattern, null, left);
             may_be_empty(pattern, null, right);
-            null[i] = null_two(pattern.node[i], null[left], null[right]);
+            null[i] = u8::from(null_two(pattern.node[i], null[left] != 0, null[right] != 0));
         }
         Node::Branch(_) | Node::Star(_) | Node::Plus(_) | Node::Opt(_) => {
             let part = i - 1;
             may_be_empty(pattern, null, part);
-            null[i] = null_one(pattern.node[i], null[part]);
+            null[i] = u8::from(null_one(pattern.node[i], null[part] != 0));
         }
     }
 }

@@ -70,7 +70,7 @@ impl Guide<'_> {
     {
         let n = self.holder(i, j);
         match self.pattern.node[n] {
-            Node::Eps | Node::Pos(_) => Step::Passed(at, false),
+            Node::Eps(_) | Node::Pos(_) | Node::Other(..) => Step::Passed(at, false),
             Node::Cat(left) => {
                 let right = n - 1;
                 let more = self.opens.open_to(right, goal, pass);

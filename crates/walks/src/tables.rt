@@ -10,11 +10,11 @@ use crate::null::may_be_empty;
 use kinds::ReadPattern;
 use sets::set::Set;
 
-// What the tables say of each node: `null`, whether it may be passed over no text; `first`, with which positions it may begin; `upto`, one
-// past the last of its positions, 0 where it has none.
+// What the tables say of each node: `null`, 1 if it may be passed over no text, else 0; `first`, with which positions it may begin; `upto`, one
+// past the last of its positions, 0 where it has none. At nodes of no part anything may stand.
 #[derive(Clone, Copy)]
 pub struct Openings {
-    pub null: [bool; 1024],
+    pub null: [u8; 1024],
     pub first: [Set; 1024],
     pub upto: [u16; 1024],
 }

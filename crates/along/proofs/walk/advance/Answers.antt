@@ -1,11 +1,9 @@
 -- `along::walk::advance` meets its contract. Assumes nothing.
-use mathlib.Core.Path.{◌≡◌, sym, ap, ◌∙◌}
+use mathlib.Core.Path.{◌≡◌, ap, ◌∙◌}
 use Prim.Native.Nat.{ℕ, ◌+◌}
 use native.Mathlib.Omega.{arith}
 use lib.ListN.{get_or, set}
-use Rattle.positions.specs.Alive.{ended_at}
-use Rattle.along.proofs.Advance.{ended_all, walk_came}
-use Rattle.along.proofs.Stocks.{went}
+use Rattle.along.proofs.Advance.{ended_at, walk_came}
 use Rattle.along.proofs.walk.advance.Goals as goal
 use Rattle.along.proofs.walk.advance.Goals.{After-put-at}
 
@@ -13,23 +11,12 @@ use Rattle.along.proofs.walk.advance.Goals.{After-put-at}
 written : (c : After-put-at) → c.put-at.new.tree ≡ set c.args.tree.now c.args.s.at (256 + get_or c.args.text.now c.args.s.read 0)
 written c = c.put-at.ensures.1 ∙ ap (λ (b : ℕ). set c.args.tree.now c.args.s.at b) c.letter.ensures
 
-pub returns-then-next-text-clause-advanced : goal.returns-then-next-text-clause-advanced
-returns-then-next-text-clause-advanced c =
-    let text = c.args.text.now in
-    let put = (goal.at.returns-then-next-text-clause-advanced c).After-put-at in
-    record {
-      goes = λ e w a.
-          walk_came w c.requires.advances.left a c.load-goal.ensures (ended_all text _ c.if-next-text.true) c.put-at.ensures.0 (written put)
-          (went (rw c.guide.ensures.pattern at c.resume.ensures)) c.also.ensures;
-    }
-
 pub returns-clause-advanced : goal.returns-clause-advanced
 returns-clause-advanced c =
-    let text = c.args.text.now in
     let left = c.requires.advances.left in
     let put = (goal.at.returns-clause-advanced c).After-put-at in
     record {
       goes = λ e w a.
-          walk_came w left a c.load-goal.ensures (sym (ended_at text _ (omega (arith, left, c.if-next-text.false)))) c.put-at.ensures.0 (written put)
-          c.onward.ensures.went c.also-2.ensures;
+          walk_came w left a c.load-goal.ensures (ended_at c.args.text.now _ (omega (arith, left))) c.put-at.ensures.0 (written put)
+          c.onward.ensures.went c.also.ensures;
     }

@@ -2,7 +2,7 @@
 use Rattle.std.proofs.Common.{refl, arith}
 use Rattle.sets.specs.Members.{none}
 use Rattle.walks.specs.Tables.{leaf_first, leaf_end}
-use Rattle.walks.proofs.Parts.{above_one, above_two, eps_at, pos_at, pair_at, any_at, held_place, held_part, held_left, held_right}
+use Rattle.walks.proofs.Parts.{above_one, above_two, eight_kinds, empty_at, pos_at, pair_at, any_at, held_place, held_part, held_left, held_right}
 use Rattle.walks.proofs.Fill.{set_put, walked_zero, walked_one, walked_two, right_one, right_left, right_right}
 use Rattle.walks.proofs.Firsts.{first_at_zero, first_at_one, first_at_two, end_at_zero, end_at_one, end_at_two}
 use Rattle.walks.proofs.first.+opens_first.Goals as goal
@@ -13,13 +13,13 @@ of-requires t c = held_place c.requires.held (pos_at _ _ c.in-Pos.is)
 pub returns-in-Eps-clause-walked_first : goal.returns-in-Eps-clause-walked_first
 unfolding leaf_first
 returns-in-Eps-clause-walked_first t c =
-    let bare = eps_at _ _ c.in-Eps.is in
+    let bare = empty_at _ _ c.in-Eps.is (eight_kinds c.requires.held.holds) in
     walked_zero bare (set_put none _ _ _ (omega (arith, c.requires.held.within, c.told-first))) (first_at_zero bare c.empty.ensures.members)
 
 pub returns-in-Eps-clause-walked_upto : goal.returns-in-Eps-clause-walked_upto
 unfolding leaf_end
 returns-in-Eps-clause-walked_upto t c =
-    let bare = eps_at _ _ c.in-Eps.is in
+    let bare = empty_at _ _ c.in-Eps.is (eight_kinds c.requires.held.holds) in
     walked_zero bare (set_put _ _ _ _ (omega (arith, c.requires.held.within, c.told-upto))) (end_at_zero bare refl)
 
 pub returns-in-Pos-clause-walked_first : goal.returns-in-Pos-clause-walked_first

@@ -1,15 +1,15 @@
 -- `may_be_empty`: each part of a node stands below it, and the entry of a node comes from those of its parts.
 use Rattle.std.proofs.Common.{refl, arith}
 use Rattle.walks.specs.Tables.{leaf_null}
-use Rattle.walks.proofs.Parts.{above_one, above_two, eps_at, pos_at, pair_at, any_at, held_part, held_left, held_right}
+use Rattle.walks.proofs.Parts.{above_one, above_two, eight_kinds, empty_at, pos_at, pair_at, any_at, held_part, held_left, held_right}
 use Rattle.walks.proofs.Fill.{set_put, walked_zero, walked_one, walked_two, right_one, right_left, right_right}
-use Rattle.walks.proofs.Nulls.{null_at_zero, null_at_one, null_at_two}
+use Rattle.walks.proofs.Nulls.{flagged, null_at_zero, null_at_one, null_at_two}
 use Rattle.walks.proofs.null.+may_be_empty.Goals as goal
 
 pub returns-in-Eps : goal.returns-in-Eps
 unfolding leaf_null
 returns-in-Eps t c =
-    let none = eps_at _ _ c.in-Eps.is in
+    let none = empty_at _ _ c.in-Eps.is (eight_kinds c.requires.held.holds) in
     walked_zero none (set_put _ _ _ _ (omega (arith, c.requires.held.within, c.told-null))) (null_at_zero none refl)
 
 pub returns-in-Pos : goal.returns-in-Pos
@@ -45,7 +45,7 @@ returns-in-Cat t c =
     (null_at_two pair
     (right_left held pair by_left by_right)
     (right_right held pair by_left by_right)
-    c.null_two.ensures)
+    (flagged c.from-in-Cat.ensures c.null_two.ensures))
 
 pub overflow_sub-part : goal.overflow_sub-part
 overflow_sub-part t c = above_one (any_at _ _ c.in-Branch.is) c.requires.held.holds
@@ -62,4 +62,4 @@ returns-in-Branch t c =
     let by_part = c.may_be_empty.ensures in
     walked_one one by_part
     (set_put _ _ _ _ (omega (arith, held.within, c.may_be_empty.array_long)))
-    (null_at_one one (right_one held one by_part) c.null_one.ensures)
+    (null_at_one one (right_one held one by_part) (flagged c.from.ensures c.null_one.ensures))

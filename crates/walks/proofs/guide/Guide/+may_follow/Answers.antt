@@ -2,16 +2,18 @@
 use Rattle.std.proofs.Common.{◌≡◌, ℕ, ◌-◌, true, false, sym, ◌∙◌, get_or, arith}
 use mathlib.Core.Bool.{or-false, and-true, and-false}
 use Rattle.sets.specs.Members.{none}
+use Rattle.walks.specs.Tables.{yes}
 use Rattle.walks.specs.Follow.{last_of}
-use Rattle.walks.proofs.Parts.{above_one, above_two, eps_at, pos_at, cat_at, alt_at, star_plus_at, branch_opt_at, held_place, held_part, held_left, held_right}
+use Rattle.walks.proofs.Parts.{above_one, above_two, eight_kinds, empty_at, pos_at, cat_at, alt_at, star_plus_at, branch_opt_at, held_place, held_part, held_left, held_right}
 use Rattle.walks.proofs.Fill.{set_put}
+use Rattle.walks.proofs.Nulls.{yes_some, yes_none}
 use Rattle.walks.proofs.Looks.{scanned_to}
 use Rattle.walks.proofs.Follows.{follows_eps, follows_pos, follows_one, follows_two, next_cat, next_alt, next_again, next_once, last_cat, last_alt}
 use Rattle.walks.proofs.guide.Guide.+may_follow.Goals as goal
-use Rattle.walks.proofs.guide.Guide.+may_follow.Goals.{After-may_follow, then-self-right, else-self-right}
+use Rattle.walks.proofs.guide.Guide.+may_follow.Goals.{After-may_follow, then-self-right-ne0, else-self-right-ne0}
 
 pub returns-in-Eps-clause-follows : goal.returns-in-Eps-clause-follows
-returns-in-Eps-clause-follows t c = follows_eps (eps_at _ _ c.in-Eps.is)
+returns-in-Eps-clause-follows t c = follows_eps (empty_at _ _ c.in-Eps.is (eight_kinds c.requires.held.holds))
 
 pub bounds-follow-q : goal.bounds-follow-q
 bounds-follow-q t c = held_place c.requires.held (pos_at _ _ c.in-Pos.is)
@@ -39,15 +41,15 @@ may_follow-requires t c =
     (omega (arith, c.decreases, right.0), (right.1, scanned_to c.requires.scanned (omega arith)))
 
 -- the end may come after the left part where the right one may be passed
-last_is : (t : ℕ) (c : After-may_follow t) → c.if-self-right.last ≡ last_of 2 (get_or c.args.self.opens.now.null (c.args.i - 1) false) c.args.end
+last_is : (t : ℕ) (c : After-may_follow t) → c.if-self-right-ne0.last ≡ last_of 2 (yes (get_or c.args.self.opens.now.null (c.args.i - 1) 0)) c.args.end
 last_is t c =
-    elim c.if-self-right.branch [
-      | then-self-right w ↦ w.last-is ∙ rw (w.if-self-right.true) (last_cat true c.args.end)
-      | else-self-right w ↦ w.last-is ∙ rw (w.if-self-right.false) (last_cat false c.args.end)
+    elim c.if-self-right-ne0.branch [
+      | then-self-right-ne0 w ↦ w.last-is ∙ rw (yes_some w.if-self-right-ne0.true) (last_cat true c.args.end)
+      | else-self-right-ne0 w ↦ w.last-is ∙ rw (yes_none w.if-self-right-ne0.false) (last_cat false c.args.end)
     ]
 
-pub returns-after-self-right-clause-follows : goal.returns-after-self-right-clause-follows
-returns-after-self-right-clause-follows t c =
+pub returns-after-self-right-ne0-clause-follows : goal.returns-after-self-right-ne0-clause-follows
+returns-after-self-right-ne0-clause-follows t c =
     follows_two c.requires.scanned (λ q. c.coming-next.ensures q ∙ next_cat _ _ _) (cat_at _ _ c.in-Cat.is) (last_is t c)
     c.may_follow-seen.ensures.follows c.may_follow.ensures.follows
 

@@ -1,14 +1,14 @@
 -- The walk into a node: each part stands below it, and the run of a node comes from the runs of its parts.
 use Rattle.std.proofs.Common.{refl, arith}
 use borrow.Author.Rules.{rules}
-use Rattle.walks.proofs.Parts.{above_one, above_two, eps_at, pos_at, cat_at, alt_at, star_opt_of, branch_plus_of}
+use Rattle.walks.proofs.Parts.{above_one, above_two, eight_kinds, empty_at, pos_at, cat_at, alt_at, star_opt_of, branch_plus_of}
 use Rattle.walks.proofs.Looks.{scanned_to}
 use Rattle.walks.proofs.Entering.{ready_mark, ready_put, ready_part, ready_close, ready_left, ready_alt, ready_on}
 use Rattle.walks.proofs.Entering.{enters_eps, enters_pos, enters_loop, enters_turn, enters_cat, enters_left, enters_right, turns_in, turns_none}
 use Rattle.walks.proofs.guide.Guide.+way_in.Goals as goal
 
 pub enter-returns-in-Eps : goal.enter-returns-in-Eps
-enter-returns-in-Eps t c = enters_eps _ _ c.requires.scanned (eps_at _ _ c.in-Eps.is)
+enter-returns-in-Eps t c = enters_eps _ _ c.requires.scanned (empty_at _ _ c.in-Eps.is (eight_kinds c.requires.ready.holds))
 
 pub enter-returns-in-Pos : goal.enter-returns-in-Pos
 enter-returns-in-Pos t c = enters_pos _ _ c.requires.scanned (pos_at _ _ c.in-Pos.is)
