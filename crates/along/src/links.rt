@@ -16,7 +16,7 @@ use walks::step::Step;
 pub const POOL: usize = 1016;
 
 // A way on that is kept: before which position it stops, where its row begins in the pool, how long that is, and whether another way was open:
-// 1 where one was, 0 where none was; any other number stands only where nothing is kept, and means no. All have 16 bits, so the table is small.
+// 1 where one was, 0 where none was. All have 16 bits, so the table is small. In a place that is no way of the pattern's anything may stand.
 #[derive(Clone, Copy)]
 pub struct Link {
     pub position: u16,

@@ -40,6 +40,10 @@ pub record Given (e : Re) (pattern : ReadPattern) : Type 0 where
   pub positions_are : pattern.positions ≡ size e
   pub classes : (q b : ℕ) → b < 256 → reads 0 e q b ≡ classed pattern.class pattern.positions q b
 
+-- the same read pattern with so many marks
+abbrev pub with_marks : ReadPattern → ℕ → ReadPattern
+with_marks P m = record { node = P.node; class = P.class; nodes = P.nodes; positions = P.positions; marks = m }
+
 -- for some e
 pub record Gives (pattern : ReadPattern) : Type 0 where
   pub e : Re

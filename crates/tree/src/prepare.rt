@@ -1,10 +1,10 @@
 // What a read pattern comes to before any text: its tables.
-ghost use Rattle.std.specs.Prelude.{◌-◌, ◌≤◌};
+ghost use Rattle.std.specs.Prelude.{ℕ, ◌-◌, ◌≤◌};
 ghost use Rattle.meaning.specs.Expression.{Re};
 ghost use Rattle.kinds.specs.Nodes.{kinds_of, args_of};
 ghost use Rattle.sets.specs.Members.{limit};
 ghost use Rattle.walks.specs.Root.{Root};
-ghost use Rattle.tree.specs.Judge.{Given, Blank, Bare, Prepared};
+ghost use Rattle.tree.specs.Judge.{Given, with_marks, Blank, Bare, Prepared};
 
 use kinds::ReadPattern;
 use passes::masks::masks;
@@ -44,13 +44,13 @@ impl Reader {
         }
     }
 
-    // Fills the tables for the read pattern.
+    // Fills the tables for the read pattern. How many marks it has is not asked: they are the same for any number.
     pub fn prepare(&mut self, pattern: &ReadPattern)
         requires some { 1 ≤ pattern.now.nodes }
         requires rooted { Root (kinds_of pattern.now.node) (args_of pattern.now.node) (pattern.now.nodes - 1) }
         requires few_positions { pattern.now.positions ≤ limit }
         requires blank { Blank self.old }
-        ensures { (e : Re) → Given e pattern.now → Prepared e pattern.now self.new }
+        ensures { (e : Re) (marks : ℕ) → Given e (with_marks pattern.now marks) → Prepared e (with_marks pattern.now marks) self.new }
     {
         self.last = self.tables.fill(pattern, pattern.nodes - 1);
         masks(&pattern.class, pattern.positions, &mut self.mask);

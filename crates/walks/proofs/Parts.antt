@@ -150,10 +150,11 @@ module _ (ns : List Node) (i : ℕ) where
   sole_at k k' a a' (inl e) = (record { kind = kind_at ns i _ refl; beside = arg_at ns i _ e ∙ a; one = rw e k }, inl (ap kind_of e))
   sole_at k k' a a' (inr e) = (record { kind = kind_at ns i _ refl; beside = arg_at ns i _ e ∙ a'; one = rw e k' }, inr (ap kind_of e))
 
-  -- any of a kind, whatever stands beside it; of no kind that a pattern has
+  -- it is of this kind, whatever stands beside it
   abbrev Some : (ℕ → Node) → Type 0
   Some of = (x : ℕ) × Here (of x)
 
+  -- it is of no kind that a pattern has, so it holds no expression
   abbrev Strange : Type 0
   Strange = (x : ℕ) × (y : ℕ) × Here (Other x y)
 
@@ -169,7 +170,7 @@ module _ (ns : List Node) (i : ℕ) where
   any_at (inr (inr (inl e))) = one_at (omega arith) e.1
   any_at (inr (inr (inr e))) = one_at (omega arith) e.1
 
-  -- where node i holds an expression: an eps; a node of no part
+  -- the kinds that an arm has together with these
   pub empty_at : Some Eps ⊎ Strange → get_or (kinds_of ns) i 0 < 8 → Bare (kinds_of ns) (args_of ns) i 0 (arg_of (get_or ns i (Eps 0)))
   empty_at (inl e) h = rw e.1 (eps_at e.1)
   empty_at (inr s) h = absurd (no_part s h)

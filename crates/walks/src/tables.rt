@@ -11,7 +11,7 @@ use kinds::ReadPattern;
 use sets::set::Set;
 
 // What the tables say of each node: `null`, 1 if it may be passed over no text, else 0; `first`, with which positions it may begin; `upto`, one
-// past the last of its positions, 0 where it has none. At nodes of no part anything may stand.
+// past the last of its positions, 0 where it has none. At a node that is not of the pattern anything may stand.
 #[derive(Clone, Copy)]
 pub struct Openings {
     pub null: [u8; 1024],
