@@ -31,8 +31,8 @@ pub stock_none : (pattern : ReadPattern) (root : ℕ) (k : Links) → k.keys ≡
 stock_none pattern root k z l t u = record { all_keys = ap length z; all_links = l; all_tokens = t; few = omega arith; kept = λ e f m h. rw z (kept_none e 256 k.links k.pool k.used) }
 
 -- the walk on from the root is the way on
-pub went : {pattern : ReadPattern} {root q from : ℕ} {goal : Set} {last : Bool} {t t' : List ℕ} {r : Step} → ResumesAt (kinds_of pattern.node) (args_of pattern.node) root q goal last t t' from r → Went pattern root q goal last t t' from r
-went R = record { wrote = λ e held inside. R.wrote e 0 0 held (omega arith, omega arith) }
+pub went : {pattern : ReadPattern} {root q from : ℕ} {goal : Set} {pass last : Bool} {t t' : List ℕ} {r : Step} → pass ≡ last → ResumesAt (kinds_of pattern.node) (args_of pattern.node) root q goal pass t t' from r → Went pattern root q goal last t t' from r
+went z R = record { wrote = λ e held inside. rw (← z) (R.wrote e 0 0 held (omega arith, omega arith)) }
 
 moved_step : (o : Out) (from new c : ℕ) (w : Bool) → moved from new (step_of o c w) ≡ step_of o (new + (c - from)) w
 moved_step pass from new c w = refl

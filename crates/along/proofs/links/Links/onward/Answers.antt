@@ -2,6 +2,7 @@
 use mathlib.Core.Path.{refl, ap, ap₂, ◌∙◌}
 use Prim.Native.Nat.{ℕ, ◌-◌}
 use native.Mathlib.Omega.{arith}
+use borrow.Author.Rules.{rules}
 use lib.ListN.{replicate}
 use Rattle.sets.specs.declared.set.Set.{Set}
 use Rattle.along.proofs.Linking.{place_of, near_is}
@@ -9,7 +10,7 @@ use Rattle.along.proofs.Stocks.{went, laid_wrote, linked_inside, pool_inside, po
 use Rattle.along.proofs.links.Links.onward.Goals as goal
 
 pub returns-then-last-clause-went : goal.returns-then-last-clause-went
-returns-then-last-clause-went c = rw c.if-last.true (went (rw c.guide-guide.ensures.pattern at c.resume.ensures))
+returns-then-last-clause-went c = went (search rules) (rw c.guide-guide.ensures.pattern at c.resume.ensures)
 
 pub returns-then-end-gt-POOL-clause-stocked : goal.returns-then-end-gt-POOL-clause-stocked
 returns-then-end-gt-POOL-clause-stocked c =
