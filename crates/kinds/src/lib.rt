@@ -9,7 +9,7 @@ use sets::class::Class;
 
 // A node of a read pattern: a node without parts is an eps or a pos, one with two parts a cat or an alt, one with one part a branch, star, plus or
 // opt. Beside it stands a number: the position, the node of the left part, or the mark; beside an eps it says nothing. The other part is the node
-// before. `Other` is in no pattern: where no node of one stands, a row that is lent may hold anything, so a kind past 7 too, less 8, with a number.
+// before. `Other` is in no pattern. It is a kind past 7, as its number less 8: where no node of a pattern stands, a row that is lent may hold it.
 #[derive(Clone, Copy, PartialEq, Eq)]
 pub enum Node {
     Eps(u16),

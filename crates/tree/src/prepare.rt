@@ -44,7 +44,7 @@ impl Reader {
         }
     }
 
-    // Fills the tables for the read pattern. How many marks it has is not asked: they are the same for any number.
+    // Fills the tables for the read pattern. They are the same whatever number of marks it says.
     pub fn prepare(&mut self, pattern: &ReadPattern)
         requires some { 1 ≤ pattern.now.nodes }
         requires rooted { Root (kinds_of pattern.now.node) (args_of pattern.now.node) (pattern.now.nodes - 1) }

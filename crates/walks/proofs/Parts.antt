@@ -170,7 +170,7 @@ module _ (ns : List Node) (i : ℕ) where
   any_at (inr (inr (inl e))) = one_at (omega arith) e.1
   any_at (inr (inr (inr e))) = one_at (omega arith) e.1
 
-  -- the kinds that an arm has together with these
+  -- an arm that has these kinds too: of a node that holds an expression it is one of the others
   pub empty_at : Some Eps ⊎ Strange → get_or (kinds_of ns) i 0 < 8 → Bare (kinds_of ns) (args_of ns) i 0 (arg_of (get_or ns i (Eps 0)))
   empty_at (inl e) h = rw e.1 (eps_at e.1)
   empty_at (inr s) h = absurd (no_part s h)
