@@ -8,3 +8,4 @@ pub mod Marks
 pub mod Whole
 pub mod Unique
 pub mod Held
+pub mod Eight

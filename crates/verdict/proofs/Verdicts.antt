@@ -24,7 +24,7 @@ sought_trees : {e : Re} {text room room' : List ℕ} {n v f : ℕ} → Sought e 
 sought_trees (no_tree x l) = none x
 sought_trees (a_tree t f) = flagged t f
 
-searched_verdict : {pat text cells room cells' room' : List ℕ} {n v f : ℕ} → Suffice text cells → Searched pat text cells room n v f cells' room' → Verdict pat text (scheduled n f)
+pub searched_verdict : {pat text cells room cells' room' : List ℕ} {n v f : ℕ} → Suffice text cells → Searched pat text cells room n v f cells' room' → Verdict pat text (scheduled n f)
 searched_verdict c (Searched.long_pattern h) = Verdict.long_pattern h
 searched_verdict c (Searched.long_text h l) = Verdict.long_text h l
 searched_verdict c (Searched.few_cells h l k) = absurd (omega (arith, c l))

@@ -170,15 +170,19 @@ module _ (ns : List Node) (i : ℕ) where
   any_at (inr (inr (inl e))) = one_at (omega arith) e.1
   any_at (inr (inr (inr e))) = one_at (omega arith) e.1
 
+  pub leaf_at : Some Eps ⊎ Some Pos → Bare (kinds_of ns) (args_of ns) i (kind_of (get_or ns i (Eps 0))) (arg_of (get_or ns i (Eps 0)))
+  leaf_at (inl e) = rw e.1 (eps_at e.1)
+  leaf_at (inr e) = rw e.1 (pos_at e.1)
+
   -- an arm that has these kinds too: of a node that holds an expression it is one of the others
   pub empty_at : Some Eps ⊎ Strange → get_or (kinds_of ns) i 0 < 8 → Bare (kinds_of ns) (args_of ns) i 0 (arg_of (get_or ns i (Eps 0)))
   empty_at (inl e) h = rw e.1 (eps_at e.1)
   empty_at (inr s) h = absurd (no_part s h)
 
-  pub leaf_at : Some Eps ⊎ (Some Pos ⊎ Strange) → get_or (kinds_of ns) i 0 < 8 → Bare (kinds_of ns) (args_of ns) i (kind_of (get_or ns i (Eps 0))) (arg_of (get_or ns i (Eps 0)))
-  leaf_at (inl e) h = rw e.1 (eps_at e.1)
-  leaf_at (inr (inl e)) h = rw e.1 (pos_at e.1)
-  leaf_at (inr (inr s)) h = absurd (no_part s h)
+  pub leaf_of_eight : Some Eps ⊎ (Some Pos ⊎ Strange) → get_or (kinds_of ns) i 0 < 8 → Bare (kinds_of ns) (args_of ns) i (kind_of (get_or ns i (Eps 0))) (arg_of (get_or ns i (Eps 0)))
+  leaf_of_eight (inl e) h = leaf_at (inl e)
+  leaf_of_eight (inr (inl e)) h = leaf_at (inr e)
+  leaf_of_eight (inr (inr s)) h = absurd (no_part s h)
 
   -- a node of two parts is one of the two
   pub two_at : 2 ≤ get_or (kinds_of ns) i 0 → get_or (kinds_of ns) i 0 ≤ 3 → Some Cat ⊎ Some Alt

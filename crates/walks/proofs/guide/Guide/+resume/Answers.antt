@@ -1,6 +1,6 @@
 -- The walk on from a position: the part that has it stands below its node, and the run of a node comes from the runs of its parts.
 use Rattle.std.proofs.Common.{refl, arith}
-use Rattle.walks.proofs.Parts.{above_one, above_two, eight_kinds, leaf_at, cat_at, alt_at, star_plus_of, branch_opt_of}
+use Rattle.walks.proofs.Parts.{above_one, above_two, eight_kinds, leaf_of_eight, cat_at, alt_at, star_plus_of, branch_opt_of}
 use Rattle.walks.proofs.Resuming.{asked_to, placed_mark, placed_part, placed_close, placed_again, placed_left, placed_on}
 use Rattle.walks.proofs.Resuming.{resumes_leaf, resumes_again, resumes_close, resumes_left, resumes_cat}
 use Rattle.walks.proofs.Spines.{spine_resumes, held_at, left_below, left_ends, left_has}
@@ -10,7 +10,7 @@ pub returns-in-Eps : goal.returns-in-Eps
 returns-in-Eps t c =
     let r = c.requires in
     let h = c.holder-n.ensures.holder in
-    spine_resumes r.known r.placed h.spine (resumes_leaf _ _ (leaf_at _ _ c.in-Eps.is (eight_kinds (held_at r.known r.placed h).holds)))
+    spine_resumes r.known r.placed h.spine (resumes_leaf _ _ (leaf_of_eight _ _ c.in-Eps.is (eight_kinds (held_at r.known r.placed h).holds)))
 
 pub overflow_sub-right : goal.overflow_sub-right
 overflow_sub-right t c = above_two (cat_at _ _ c.in-Cat.is) (held_at c.requires.known c.requires.placed c.holder-n.ensures.holder).holds
